@@ -1,0 +1,3 @@
+pub mod Command
+pub mod Work
+pub mod Written

@@ -1,0 +1,41 @@
+-- How many turns an event adds.
+use Rattle.std.proofs.Common.{ℕ, zero, suc, ◌≡◌, ◌+◌, ◌≤◌, List, [], ◌∷◌, ◌++◌, Option, Some, None, Bool, true, false, refl, length, length-append, arith, slice_get}
+use Rattle.ir_core.specs.Module.{ModuleParts}
+use Rattle.hard_ir.specs.declared.HInst.{HInst}
+use Rattle.hard_ir.specs.declared.HBlock.{HBlock}
+use Rattle.haft_run.specs.declared.outcome.Stop.{Stop}
+use Rattle.haft_run.specs.declared.state.Frame.{Frame}
+use Rattle.haft_run.specs.declared.state.Thread.{Thread}
+use Rattle.haft_run.specs.declared.state.Thread.TheVariants.{Absent, Running, Exiting}
+use Rattle.haft_run.specs.declared.state.Effect.{Effect}
+use Rattle.haft_run.specs.declared.state.Effect.TheVariants.{Acts, Passes, Fails, Traps}
+use Rattle.haft_run.specs.Source.{World, callees}
+use Rattle.haft_run.specs.Hard.{Machine, Event, Turn, after_effect, fetched, effect_of, frame_after, exited, turned, unless_stopped, event, thread_at, code_of}
+
+-- an event adds a turn at most
+length-after_effect : (m : ModuleParts) (h : Machine) (t : ℕ) (frame : Frame) (effect : Effect) → length (after_effect m h t frame effect).turns ≤ length h.turns + 1
+length-after_effect m h t frame (Acts action true) = omega (arith, length-append h.turns (t ∷ []))
+length-after_effect m h t frame (Acts action false) = omega arith
+length-after_effect m h t frame Passes = omega arith
+length-after_effect m h t frame Fails = omega arith
+length-after_effect m h t frame Traps = omega arith
+
+length-fetched : (m : ModuleParts) (h : Machine) (t : ℕ) (frame : Frame) (inst : Option HInst) → length (fetched m h t frame inst).turns ≤ length h.turns + 1
+length-fetched m h t frame None = omega arith
+length-fetched m h t frame (Some inst) = length-after_effect m h t (frame_after (callees m) inst frame) (effect_of (callees m) inst frame)
+
+length-exited : (h : Machine) (t word : ℕ) → length (exited h t word).turns ≤ length h.turns + 1
+length-exited h zero word = omega (arith, length-append h.turns (zero ∷ []))
+length-exited h (suc t) word = omega (arith, length-append h.turns (suc t ∷ []))
+
+length-turned : (m : ModuleParts) (functions : List (List HBlock)) (h : Machine) (t : ℕ) (thread : Thread) → length (turned m functions h t thread).turns ≤ length h.turns + 1
+length-turned m functions h t Absent = omega arith
+length-turned m functions h t (Running frame) = length-fetched m h t frame (slice_get (code_of functions frame.function frame.block) frame.index)
+length-turned m functions h t (Exiting word) = length-exited h t word
+
+length-unless_stopped : (stop : Option Stop) (h next : Machine) → length next.turns ≤ length h.turns + 1 → length (unless_stopped stop h next).turns ≤ length h.turns + 1
+length-unless_stopped None h next e = e
+length-unless_stopped (Some stop) h next e = omega arith
+
+pub length-event : (m : ModuleParts) (functions : List (List HBlock)) (h : Machine) (t : ℕ) → length (event m functions h (Turn t)).turns ≤ length h.turns + 1
+length-event m functions h t = length-unless_stopped h.stop h _ (length-turned m functions h t (thread_at h.threads t))

@@ -1,0 +1,12 @@
+pub mod Grouping
+pub mod Events
+pub mod Agreement
+pub mod Places
+pub mod Points
+pub mod Lists
+pub mod Kept
+pub mod Steps
+pub mod Simulation
+pub mod Images
+pub mod Repeats
+pub mod Defined

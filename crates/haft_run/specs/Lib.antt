@@ -1,0 +1,6 @@
+pub mod Source
+pub mod Hard
+pub mod Turns
+pub mod Report
+pub mod Meaning
+pub mod State

@@ -1,0 +1,44 @@
+-- What a run of the hardened program says of the source program.
+use Rattle.std.specs.Prelude.{ℕ, ◌≡◌, ◌↔◌, List, [], ◌∷◌, Option, Some, None, Bool, true, false}
+use Rattle.ir_core.specs.Module.{ModuleParts}
+use Rattle.haft_run.specs.declared.outcome.Stop.{Stop}
+use Rattle.haft_run.specs.declared.outcome.Stop.TheVariants.{End, Bound, Fail, Trap}
+use Rattle.haft_run.specs.declared.outcome.RunResult.{RunResult}
+use Rattle.haft_run.specs.Source.{Answer, Went, Idle, Undefined, Ended, source}
+use Rattle.haft_run.specs.Turns.{turns_of}
+
+-- each answer is Went, but that the last may be Ended
+abbrev pub AllWent : List Answer → Type 0
+AllWent [] = Unit {0}
+AllWent (Went ∷ answers) = AllWent answers
+AllWent (Idle ∷ answers) = ⊥
+AllWent (Undefined fault ∷ answers) = ⊥
+AllWent (Ended code ∷ answers) = answers ≡ []
+
+-- the last answer, where it is Ended
+abbrev pub code_of : List Answer → Option ℕ
+code_of [] = None
+code_of (Ended code ∷ []) = Some code
+code_of (answer ∷ answers) = code_of answers
+
+-- a check failed, or an undefined action was met
+abbrev pub IsFailure : Stop → Type 0
+IsFailure (Fail tid at) = Unit {0}
+IsFailure (Trap tid at) = Unit {0}
+IsFailure stop = ⊥
+
+abbrev pub NoneUndefined : List Answer → Type 0
+NoneUndefined [] = Unit {0}
+NoneUndefined (Undefined fault ∷ answers) = ⊥
+NoneUndefined (answer ∷ answers) = NoneUndefined answers
+
+-- no list of turns comes to an undefined step
+abbrev pub IsDefined : ModuleParts → Type 0
+IsDefined m = (turns : List ℕ) → NoneUndefined (source m turns).answers
+
+-- the result stands for the source run on the turns that it tells
+pub record Means (m : ModuleParts) (r : RunResult) : Type 0 where
+  pub went : AllWent (source m (turns_of r.turns)).answers
+  pub outputs : r.outs ≡ (source m (turns_of r.turns)).state.world.outputs
+  pub ends : (code : ℕ) → (r.stop ≡ End code) ↔ (code_of (source m (turns_of r.turns)).answers ≡ Some code)
+  pub never_fails : IsFailure r.stop → ⊥

@@ -1,0 +1,8 @@
+-- The state for which the machine's fields stand. Small schedules have turns of thread 0 alone, so that
+-- it keeps one thread.
+use Rattle.std.specs.Prelude.{[], ◌∷◌}
+use Rattle.haft_run.specs.declared.machine.Machine.{Machine}
+use Rattle.haft_run.specs.Hard.{Machine as State}
+
+abbrev pub state_of : Machine → State
+state_of h = record { threads = h.thread ∷ []; world = record { outputs = h.outs }; turns = h.turns; stop = h.stop }

@@ -1,0 +1,61 @@
+-- The image of an instruction: what stands for it in the hardened program, column by column.
+--
+-- Choices: the image of a block is the concatenation of the images of its instructions. A column is
+-- added to the image of one instruction, and never at a place of a block. The instruction that retires
+-- is the last one of the image that does the source instruction.
+-- Of the table's rows those of small texts stand here: operations, calls of externals without a result,
+-- and `ret`.
+use Rattle.std.specs.Prelude.{List, [], ◌∷◌, ◌++◌, Option, Some, None, true, false, map}
+use Rattle.std.specs.List.{flat_map}
+use Rattle.ir_core.specs.declared.types.Ty.{Ty}
+use Rattle.ir_core.specs.declared.types.Loc.{Loc}
+use Rattle.ir_core.specs.declared.values.Val.{Val}
+use Rattle.ir_core.specs.declared.values.Val.TheVariants as values
+use Rattle.ir_core.specs.declared.values.Side.{Side}
+use Rattle.ir_core.specs.declared.values.Side.TheVariants.{M, S}
+use Rattle.ir_core.specs.declared.instruction.Inst.{Inst}
+use Rattle.ir_core.specs.declared.instruction.Inst.TheVariants as insts
+use Rattle.ir_core.specs.declared.instruction.Flags.{Flags}
+use Rattle.ir_core.specs.declared.instruction.Block.{Block}
+use Rattle.hard_ir.specs.declared.When.TheVariants.{Always}
+use Rattle.hard_ir.specs.declared.HInst.{HInst}
+use Rattle.hard_ir.specs.declared.HInst.TheVariants.{Chk, Do}
+use Rattle.hard_ir.specs.declared.HBlock.{HBlock}
+
+-- hardened operations have no flags: a result that a flag makes poison is no concern of the hardening
+abbrev pub no_flags : Flags
+no_flags = record { nuw = false; nsw = false; exact = false }
+
+-- The columns of master and shadow. An operation is done on each side, and the shadow retires; any other
+-- instruction is done once, on the master's registers. What follows is `rest`.
+abbrev pub doubled : Inst → List HInst → List HInst
+doubled (insts.Bin dst op flags w a b) rest = Do M (insts.Bin dst op no_flags w a b) false ∷ Do S (insts.Bin dst op no_flags w a b) true ∷ rest
+doubled inst rest = Do M inst true ∷ rest
+
+-- the operands that are checked before an instruction is done, in the order in which its line writes them
+abbrev pub checked : Inst → List (Ty × Val)
+checked (insts.Call dst ret callee args) = args
+checked (insts.Ret ty (Some value)) = (ty, value) ∷ []
+checked inst = []
+
+-- the checks of operands: one for each that is a register
+abbrev pub check : Ty → Val → List HInst → List HInst
+check ty (values.Reg reg) rest = Chk Always ty reg ∷ rest
+check ty value rest = rest
+
+abbrev pub checks : List (Ty × Val) → List HInst → List HInst
+checks [] rest = rest
+checks (operand ∷ operands) rest = check operand.0 operand.1 (checks operands rest)
+
+-- the image of an instruction, and what follows it
+abbrev pub image : Inst → List HInst → List HInst
+image inst rest = checks (checked inst) (doubled inst rest)
+
+-- the image of a block's instructions
+abbrev pub images : List Inst → List HInst
+images [] = []
+images (inst ∷ rest) = image inst (images rest)
+
+-- the hardened block
+abbrev pub hardened : Block → HBlock
+hardened block = record { label = block.label; phis = []; list = images block.insts }

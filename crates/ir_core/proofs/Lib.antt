@@ -1,0 +1,3 @@
+pub mod Blocks
+mod Keys
+pub mod Numbering

@@ -1,0 +1,4 @@
+pub mod Fronts
+pub mod Schedules
+pub mod LineLaws
+pub mod Building

@@ -1,0 +1,283 @@
+#!/usr/bin/env bats
+# System tests: the built program on files, words and devices, as a user meets it.
+#
+# A folder of cases/ is one call and its answer: words (one a line), the files first and second that the words name
+# (one that isn't there can't be read), stdout (all that is written) and status. Answers were worked out by hand.
+# Inputs too large to keep, and devices, are made here; the answers to these follow by arithmetic.
+#
+# The program is crates/haft/out/haft, or $HAFT.
+
+setup() {
+    tests=$BATS_TEST_DIRNAME
+    program=$(realpath -e "${HAFT:-$tests/../crates/haft/out/haft}")
+    sum=$tests/../examples/sum.ll
+    cd "$BATS_TEST_TMPDIR"
+}
+
+# The most bytes that a file may have.
+greatest_size=4194304
+
+# answer WORD.. runs the program, and keeps what it writes and its status. The program has 20 seconds, and as many
+# KiB of address space as $memory says, if it is set.
+answer() {
+    status=0
+    (
+        [ -z "${memory:-}" ] || ulimit -v "$memory"
+        exec timeout 20 "$program" "$@"
+    ) >"$BATS_TEST_TMPDIR/written" 2>"$BATS_TEST_TMPDIR/complaint" || status=$?
+}
+
+# answered STATUS FILE: the last answer had this status and wrote exactly this file, and nothing on standard error.
+answered() {
+    if [ "$status" -ne "$1" ]; then
+        echo "status $status, not $1"
+        return 1
+    fi
+    cmp "$BATS_TEST_TMPDIR/written" "$2" && cmp "$BATS_TEST_TMPDIR/complaint" /dev/null
+}
+
+# answered_lines STATUS LINE..: the same, for these lines.
+answered_lines() {
+    local wanted=$1
+    shift
+    if [ "$#" -gt 0 ]; then printf '%s\n' "$@"; fi >"$BATS_TEST_TMPDIR/wanted"
+    answered "$wanted" "$BATS_TEST_TMPDIR/wanted"
+}
+
+size_of() { stat -c %s "$1"; }
+
+# sums COUNT writes a small text of COUNT sums, each of the one before it and 1, then an output of the last.
+# Its return's code has leading zeros, so that it has the greatest size that a file may have.
+sums() {
+    awk -v count="$1" -v size="$greatest_size" 'BEGIN {
+        text = "declare void @haft_out(i64)\ndefine i32 @main() {\n  %a000001 = add i64 0, 1\n"
+        printf "%s", text; written = length(text)
+        for (k = 2; k <= count; k++) {
+            line = sprintf("  %%a%06d = add i64 %%a%06d, 1\n", k, k - 1)
+            printf "%s", line; written += length(line)
+        }
+        text = sprintf("  call void @haft_out(i64 %%a%06d)\n  ret i32 ", count)
+        printf "%s%0*d\n}\n", text, size - written - length(text) - 3, 9
+    }'
+}
+
+# short_sums COUNT writes a small text of COUNT sums in the shortest lines, for the most instructions in a file.
+short_sums() {
+    awk -v count="$1" 'BEGIN {
+        digits = "0123456789"; letters = "ABCDEFGHIJKLMNOPQRSTUVWXYZabcdefghijklmnopqrstuvwxyz"; all = letters digits
+        print "declare void @haft_out(i64)\ndefine i32 @main() {"
+        for (k = 0; k < count; k++) {
+            name = substr(letters, int(k / 3844) + 1, 1) substr(all, int(k / 62) % 62 + 1, 1) substr(all, k % 62 + 1, 1)
+            print "  %" name " = add i64 0, 0"
+        }
+        print "  ret i32 0\n}"
+    }'
+}
+
+# constants COUNT writes a small text of COUNT outputs of 1.
+constants() {
+    printf 'declare void @haft_out(i64)\ndefine i32 @main() {\n'
+    yes '  call void @haft_out(i64 1)' | head -n "$1"
+    printf '  ret i32 0\n}\n'
+}
+
+@test "each folder of cases/ has the answer that stands in it" {
+    local folder failed=0 count=0
+    for folder in "$tests"/cases/*/; do
+        cd "$folder"
+        mapfile -t words <words
+        answer "${words[@]}"
+        if ! answered "$(<status)" stdout; then
+            echo "  at cases/$(basename "$folder")"
+            failed=$((failed + 1))
+        fi
+        count=$((count + 1))
+    done
+    echo "$failed of $count failed"
+    [ "$count" -gt 0 ] && [ "$failed" -eq 0 ]
+}
+
+@test "each example prints what stands beside it" {
+    local module name
+    for module in "$tests"/../examples/*.ll; do
+        name=${module%.ll}
+        echo "$name"
+        answer run "$module" "$name.sched"
+        answered 0 "$name.expected"
+    done
+}
+
+@test "a first file of more than 4 MiB is refused before the second is read" {
+    head -c $((greatest_size + 1)) /dev/zero >first
+    answer run first missing
+    answered_lines 1 "refused long first"
+}
+
+@test "a second file of more than 4 MiB is refused before the text of the first is looked at" {
+    echo "no small text" >first
+    head -c $((greatest_size + 1)) /dev/zero >second
+    answer run first second
+    answered_lines 1 "refused long second"
+}
+
+@test "an endless first file is refused" {
+    answer run /dev/zero missing
+    answered_lines 1 "refused long first"
+}
+
+@test "a first file of exactly 4 MiB is read, and refused for its text" {
+    head -c $greatest_size /dev/zero >first
+    echo "turn 0 1" >second
+    answer run first second
+    answered_lines 1 "refused unbuilt first"
+}
+
+@test "a second file of exactly 4 MiB is read, and refused for its text" {
+    head -c $greatest_size /dev/zero >second
+    answer run "$sum" second
+    answered_lines 1 "refused unbuilt second"
+}
+
+@test "a text of 4 MiB with 127,000 sums runs to its end within 20 seconds" {
+    sums 127000 >first
+    [ "$(size_of first)" -eq $greatest_size ]
+    # two turns for each sum, the check, the output, the return, the exit
+    echo "turn 0 $((2 * 127000 + 4))" >second
+    answer run first second
+    answered_lines 0 "out 127000" "aborts 0 0 0 0" "stop end 9" "src 0*127003"
+}
+
+@test "one turn fewer than a text of 4 MiB needs stops before its exit" {
+    sums 127000 >first
+    echo "turn 0 $((2 * 127000 + 3))" >second
+    answer run first second
+    answered_lines 0 "out 127000" "aborts 0 0 0 0" "stop bound" "src 0*127002"
+}
+
+@test "a text of 4 MiB with a fault in its last line is refused within 20 seconds" {
+    sums 127000 >whole
+    head -c $((greatest_size - 1)) whole >first
+    echo "turn 0 1" >second
+    answer run first second
+    answered_lines 1 "refused unbuilt first"
+}
+
+@test "a text of nearly 4 MiB with 144,000 outputs writes them all within 20 seconds" {
+    constants 144000 >first
+    [ "$(size_of first)" -le $greatest_size ]
+    echo "turn 0 144002" >second
+    answer run first second
+    { yes "out 1" | head -n 144000; printf 'aborts 0 0 0 0\nstop end 0\nsrc 0*144002\n'; } >wanted_report
+    answered 0 wanted_report
+}
+
+@test "4,194,304 turns over a text of 4 MiB end within 20 seconds" {
+    sums 127000 >first
+    echo "turn 0 4194304" >second
+    answer run first second
+    answered_lines 0 "out 127000" "aborts 0 0 0 0" "stop end 9" "src 0*127003"
+}
+
+@test "a schedule of 4 MiB with 466,033 lines runs within 20 seconds" {
+    # 466,032 lines of 9 bytes, and leading zeros in a last one of 16
+    { yes "turn 0 1" | head -n 466032; echo "turn 0 00000001"; } >second
+    [ "$(size_of second)" -eq $greatest_size ]
+    constants 100000 >first
+    answer run first second
+    { yes "out 1" | head -n 100000; printf 'aborts 0 0 0 0\nstop end 0\nsrc 0*100002\n'; } >wanted_report
+    answered 0 wanted_report
+}
+
+@test "a text of nearly 4 MiB with 190,000 sums runs to its end within 20 seconds" {
+    short_sums 190000 >first
+    [ "$(size_of first)" -le $greatest_size ]
+    echo "turn 0 $((2 * 190000 + 2))" >second
+    answer run first second
+    answered_lines 0 "aborts 0 0 0 0" "stop end 0" "src 0*190002"
+}
+
+# Memory takes no more than address space does; of this, 64 MiB are for the program itself.
+@test "texts of 4 MiB run in 100 bytes of memory for each byte of input" {
+    memory=$((100 * greatest_size / 1024 + 64 * 1024))
+    echo "turn 0 4194304" >second
+
+    sums 127000 >first
+    answer run first second
+    answered_lines 0 "out 127000" "aborts 0 0 0 0" "stop end 9" "src 0*127003"
+
+    short_sums 190000 >first
+    answer run first second
+    answered_lines 0 "aborts 0 0 0 0" "stop end 0" "src 0*190002"
+
+    constants 144000 >first
+    answer run first second
+    { yes "out 1" | head -n 144000; printf 'aborts 0 0 0 0\nstop end 0\nsrc 0*144002\n'; } >wanted_report
+    answered 0 wanted_report
+}
+
+@test "where memory is short the answer is status 5 with nothing written, and never a part of the report" {
+    sums 127000 >first
+    echo "turn 0 4194304" >second
+    # the text alone has 4 MiB, and the program with its library 3
+    memory=$((8 * 1024))
+    answer run first second
+    answered_lines 5
+    for mebibytes in 12 16 24 32 48 64 96 128 192; do
+        echo "$mebibytes MiB"
+        memory=$((mebibytes * 1024))
+        answer run first second
+        [ "$status" -eq 0 ] || answered_lines 5
+        [ "$status" -eq 5 ] || answered_lines 0 "out 127000" "aborts 0 0 0 0" "stop end 9" "src 0*127003"
+    done
+}
+
+@test "a full device ends a report with status 4" {
+    echo "turn 0 40" >second
+    status=0
+    "$program" run "$sum" second >/dev/full || status=$?
+    [ "$status" -eq 4 ]
+}
+
+@test "a full device ends a refusal with status 4" {
+    echo "turn 1 5" >second
+    status=0
+    "$program" run "$sum" second >/dev/full || status=$?
+    [ "$status" -eq 4 ]
+}
+
+@test "a full device changes no status where nothing is written" {
+    status=0
+    "$program" >/dev/full || status=$?
+    [ "$status" -eq 2 ]
+    status=0
+    "$program" run "$sum" missing >/dev/full || status=$?
+    [ "$status" -eq 3 ]
+}
+
+@test "a folder in place of a file ends with status 3, and nothing is written" {
+    mkdir folder
+    echo "turn 0 40" >second
+    answer run folder second
+    answered_lines 3
+    answer run "$sum" folder
+    answered_lines 3
+}
+
+@test "a file that this user may not read ends with status 3, and nothing is written" {
+    echo "turn 0 40" >second
+    chmod 000 second
+    [ ! -r second ] || skip "this user may read every file"
+    answer run "$sum" second
+    answered_lines 3
+}
+
+@test "a name below a file ends with status 3, and nothing is written" {
+    echo "turn 0 40" >second
+    answer run "$sum" second/second
+    answered_lines 3
+}
+
+@test "a pipe that gives its text in two parts is read to its end" {
+    answer run <(head -c 50 "$sum"; sleep 0.2; tail -c +51 "$sum") <(printf 'turn 0 '; sleep 0.2; echo 40)
+    answered_lines 0 "out 5" "aborts 0 0 0 0" "stop end 0" "src 0*4"
+}
