@@ -4,10 +4,9 @@
 
 use haft_cli::haft;
 use haft_io::{FileInputs, StdSink};
-use std::env;
-use std::io;
 use std::process::ExitCode;
 use std::rt::{Env, Files};
+use std::{env, io};
 
 /// The words were faulty: one of them isn't text.
 const USAGE: u8 = 2;

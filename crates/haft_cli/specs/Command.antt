@@ -1,6 +1,6 @@
 -- What a command line asks for, what is written for it, and when it is refused. Of a file, what is left
 -- before the call is known where the inputs tell it.
-use Rattle.std.specs.Prelude.{ℕ, ◌≡◌, ◌<◌, ◌≤◌, List, [], ◌∷◌, ◌++◌, Option, Some, None, Bool, true, false, codes, length}
+use Rattle.std.specs.Prelude.{ℕ, ◌≡◌, ◌<◌, ◌≤◌, List, [], ◌∷◌, Option, Bool, false, codes, length}
 use Rattle.std.specs.Option.{ForSome}
 use Rattle.std.specs.Str.{bytes_eq}
 use Rattle.ir_core.specs.Module.{ModuleParts}

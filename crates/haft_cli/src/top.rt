@@ -36,7 +36,7 @@ pub enum Status {
 fn finish<O: Sink>(out: &mut O, work: &Work) -> Status
     ensures cases { ((result ≡ status_of work.now) × Puts (O.written out.old) (text_of work.now) (O.written out.new))
         ⊎ ((result ≡ Status.WriteFault) × Rose (O.faults out.old) (O.faults out.new)
-          × PutsPart (O.written out.old) (text_of work.now) (O.written out.new)) }
+        × PutsPart (O.written out.old) (text_of work.now) (O.written out.new)) }
 {
     let (text, status) = match work {
         Work::Report(text) => (text.as_slice(), Status::Done),

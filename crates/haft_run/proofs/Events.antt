@@ -1,5 +1,5 @@
 -- How many turns an event adds.
-use Rattle.std.proofs.Common.{ℕ, zero, suc, ◌≡◌, ◌+◌, ◌≤◌, List, [], ◌∷◌, ◌++◌, Option, Some, None, Bool, true, false, refl, length, length-append, arith, slice_get}
+use Rattle.std.proofs.Common.{ℕ, zero, suc, ◌+◌, ◌≤◌, List, [], ◌∷◌, Option, Some, None, true, false, length, length-append, arith, slice_get}
 use Rattle.ir_core.specs.Module.{ModuleParts}
 use Rattle.hard_ir.specs.declared.HInst.{HInst}
 use Rattle.hard_ir.specs.declared.HBlock.{HBlock}
@@ -9,8 +9,8 @@ use Rattle.haft_run.specs.declared.state.Thread.{Thread}
 use Rattle.haft_run.specs.declared.state.Thread.TheVariants.{Absent, Running, Exiting}
 use Rattle.haft_run.specs.declared.state.Effect.{Effect}
 use Rattle.haft_run.specs.declared.state.Effect.TheVariants.{Acts, Passes, Fails, Traps}
-use Rattle.haft_run.specs.Source.{World, callees}
-use Rattle.haft_run.specs.Hard.{Machine, Event, Turn, after_effect, fetched, effect_of, frame_after, exited, turned, unless_stopped, event, thread_at, code_of}
+use Rattle.haft_run.specs.Source.{callees}
+use Rattle.haft_run.specs.Hard.{Machine, Turn, after_effect, fetched, effect_of, frame_after, exited, turned, unless_stopped, event, thread_at, code_of}
 
 -- an event adds a turn at most
 length-after_effect : (m : ModuleParts) (h : Machine) (t : ℕ) (frame : Frame) (effect : Effect) → length (after_effect m h t frame effect).turns ≤ length h.turns + 1

@@ -1,5 +1,5 @@
 -- Turns that are added at the end, as maximal runs.
-use Rattle.std.proofs.Common.{ℕ, zero, suc, ◌≡◌, ◌+◌, ◌-◌, ◌<◌, ◌≤◌, ◌==◌, List, [], ◌∷◌, ◌++◌, Bool, true, false, cond, length, refl, ap, sym, ◌∙◌, arith, slice_set, slice_index_or, replicate, append_assoc, length-append, add-one, Option, Some, None, is_some, nat_lt, lt-ltb}
+use Rattle.std.proofs.Common.{ℕ, zero, suc, ◌≡◌, ◌+◌, ◌<◌, ◌≤◌, ◌==◌, List, [], ◌∷◌, ◌++◌, Bool, true, false, length, refl, ap, sym, ◌∙◌, arith, slice_set, slice_index_or, replicate, append_assoc, length-append, add-one, Option, Some, None, is_some, nat_lt, lt-ltb}
 use Rattle.std.proofs.lemmas.List.{length-replicate, append-nil}
 use Rattle.std.proofs.lemmas.Bool.{eqb-true, eqb-false, true≢false}
 use Rattle.ir_core.specs.declared.types.Tid.{Tid}

@@ -1,16 +1,11 @@
 -- What a turn keeps: one lemma for each effect that a turn has on the whole machine.
-use Rattle.std.proofs.Common.{ℕ, zero, suc, ◌≡◌, ◌+◌, ◌<◌, ◌%◌, ◌^◌, List, [], ◌∷◌, ◌++◌, Option, Some, None, Bool, true, false, refl, ap, sym, ◌∙◌, subst, length, slice_set, slice_get, drop, arith}
-use Rattle.std.specs.List.{slice_index_or}
-use Rattle.ir_core.specs.declared.types.Loc.{Loc}
+use Rattle.std.proofs.Common.{ℕ, zero, suc, ◌≡◌, ◌<◌, ◌%◌, ◌^◌, List, [], ◌∷◌, ◌++◌, Some, true, refl, ap, sym, ◌∙◌, subst, length, slice_set, drop, arith}
 use Rattle.ir_core.specs.declared.instruction.Inst.{Inst}
 use Rattle.ir_core.specs.Module.{ModuleParts}
 use Rattle.ir_action.specs.declared.Fault.{Fault as Faults}
 use Rattle.ir_action.specs.declared.Action.{Action}
-use Rattle.ir_action.specs.declared.Action.TheVariants.{Assign, Ask, Return, Fault}
 use Rattle.ir_action.specs.Action.{action_of, destination}
 use Rattle.hard_ir.specs.declared.HInst.{HInst}
-use Rattle.hard_ir.specs.Image.{images}
-use Rattle.haft_run.specs.declared.outcome.Stop.TheVariants.{End}
 use Rattle.haft_run.specs.declared.state.Frame.{Frame}
 use Rattle.haft_run.specs.declared.state.Thread.{Thread}
 use Rattle.haft_run.specs.declared.state.Thread.TheVariants.{Absent, Running, Exiting}
@@ -23,7 +18,7 @@ use Rattle.haft_run.specs.Meaning.{AllWent, code_of, NoneUndefined, IsDefined}
 use Rattle.ir_action.specs.declared.Fault.TheVariants.{Unsupported}
 use Rattle.haft_run.proofs.Places.{slice_get-drop, slice_get-drop_none}
 use Rattle.haft_run.proofs.Lists.{SetAt, Same, Other, set_at}
-use Rattle.haft_run.proofs.Points.{Both, RunsAt, Stands, BothAbsent, BothRun, BothExit, Reached, EachWent, Goes, Ends, Simulates, IsGoing, IsOver}
+use Rattle.haft_run.proofs.Points.{Both, RunsAt, Stands, BothAbsent, BothRun, Reached, EachWent, Goes, Ends}
 
 -- a run with one more turn at its end
 run_from-append : (m : ModuleParts) (s : State) (turns : List ℕ) (t : ℕ) → run_from m s (turns ++ t ∷ []) ≡ record { state = (step m (run_from m s turns).state t).0; answers = (run_from m s turns).answers ++ (step m (run_from m s turns).state t).1 ∷ [] }

@@ -1,5 +1,5 @@
 -- What stands in a list of threads once one of them is set.
-use Rattle.std.proofs.Common.{ℕ, zero, suc, ◌≡◌, ◌≢◌, ◌<◌, ◌⊎◌, inl, inr, List, [], ◌∷◌, refl, ap, length, slice_set, slice_index_or, arith, ◌-◌}
+use Rattle.std.proofs.Common.{ℕ, zero, suc, ◌≡◌, ◌≢◌, ◌<◌, List, [], ◌∷◌, refl, ap, length, slice_set, slice_index_or, arith}
 
 pub data SetAt {X : Type 0} (xs : List X) (t u : ℕ) (x d : X) : Type 0 where
   Same : u ≡ t → slice_index_or (slice_set xs t x) u d ≡ x → SetAt xs t u x d

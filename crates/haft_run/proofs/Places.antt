@@ -1,10 +1,9 @@
 -- The code of a hardened block is the image of the source block's, and what stands at an index of a list.
-use Rattle.std.proofs.Common.{ℕ, zero, suc, ◌≡◌, List, [], ◌∷◌, Option, Some, None, map, drop, refl, ap, sym, ◌∙◌, slice_get}
+use Rattle.std.proofs.Common.{ℕ, zero, suc, ◌≡◌, List, [], ◌∷◌, Option, Some, None, map, drop, refl, ap, ◌∙◌, slice_get}
 use Rattle.std.specs.Option.{option_map}
 use Rattle.std.proofs.lemmas.Option.{slice_get-map}
 use Rattle.ir_core.specs.declared.instruction.Block.{Block}
 use Rattle.ir_core.specs.Module.{ModuleParts, FuncParts}
-use Rattle.hard_ir.specs.declared.HBlock.{HBlock}
 use Rattle.hard_ir.specs.Image.{images, hardened}
 use Rattle.haft_run.specs.Source as source
 use Rattle.haft_run.specs.Hard as hard

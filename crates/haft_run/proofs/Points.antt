@@ -1,6 +1,6 @@
 -- The points inside the image of an instruction, and what a source thread and a hardened one have in
 -- common. What is known of the registers is known of named sides: of both, or of one alone.
-use Rattle.std.proofs.Common.{ℕ, ◌≡◌, List, [], ◌∷◌, ◌++◌, Option, Some, None, Bool, true, false, drop}
+use Rattle.std.proofs.Common.{ℕ, ◌≡◌, List, [], ◌∷◌, ◌++◌, Option, Some, None, true, false, drop}
 use Rattle.ir_core.specs.declared.types.Ty.{Ty}
 use Rattle.ir_core.specs.declared.types.Loc.{Loc}
 use Rattle.ir_core.specs.declared.types.Width.{Width}
@@ -19,7 +19,6 @@ use Rattle.ir_action.specs.Action.{action_of}
 use Rattle.hard_ir.specs.declared.HInst.{HInst}
 use Rattle.hard_ir.specs.declared.HInst.TheVariants.{Do}
 use Rattle.hard_ir.specs.Image.{no_flags, doubled, checked, checks, images}
-use Rattle.haft_run.specs.declared.outcome.Stop.{Stop}
 use Rattle.haft_run.specs.declared.outcome.Stop.TheVariants.{End}
 use Rattle.haft_run.specs.declared.state.Frame.{Frame}
 use Rattle.haft_run.specs.declared.state.Thread.{Thread}

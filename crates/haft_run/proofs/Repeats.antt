@@ -1,5 +1,5 @@
 -- A run over equal events, one by one.
-use Rattle.std.proofs.Common.{ℕ, suc, ◌≡◌, ◌+◌, ◌-◌, ◌<◌, ◌≤◌, List, replicate, ap, ◌∙◌, arith}
+use Rattle.std.proofs.Common.{ℕ, suc, ◌≡◌, ◌+◌, ◌-◌, ◌<◌, ◌≤◌, List, replicate, ap, arith}
 use Rattle.ir_core.specs.Module.{ModuleParts}
 use Rattle.hard_ir.specs.declared.HBlock.{HBlock}
 use Rattle.haft_run.specs.Hard.{Machine, Event, event, run_from}

@@ -1,23 +1,19 @@
 -- Every run of the hardened program stands for the source run on its turns.
-use Rattle.std.proofs.Common.{ℕ, zero, suc, ◌≡◌, ◌↔◌, List, [], ◌∷◌, Option, Some, None, Bool, true, false, refl, ap, sym, ◌∙◌, subst, drop}
+use Rattle.std.proofs.Common.{ℕ, zero, suc, ◌≡◌, List, [], ◌∷◌, None, refl, ap, sym, ◌∙◌, subst}
 use Rattle.ir_core.specs.Module.{ModuleParts}
-use Rattle.haft_run.specs.declared.outcome.Stop.{Stop}
-use Rattle.haft_run.specs.declared.outcome.Stop.TheVariants.{End, Bound}
-use Rattle.haft_run.specs.declared.outcome.RunResult.{RunResult}
-use Rattle.haft_run.specs.declared.state.Frame.{Frame}
-use Rattle.haft_run.specs.declared.state.Thread.TheVariants.{Absent, Running, Exiting}
+use Rattle.haft_run.specs.declared.state.Thread.TheVariants.{Exiting}
 use Rattle.haft_run.specs.Source as source
 use Rattle.haft_run.specs.Source.{State, Answer, Went, Idle, Undefined, Ended}
 use Rattle.haft_run.specs.Hard as hard
 use Rattle.haft_run.specs.Hard.{Machine, Event, Turn, event}
 use Rattle.haft_run.specs.Turns.{hardened_functions, result_of, run_on, turns_of, grouped}
-use Rattle.haft_run.specs.Meaning.{AllWent, code_of, IsDefined, IsFailure, Means}
+use Rattle.haft_run.specs.Meaning.{AllWent, code_of, IsDefined, Means}
 use Rattle.haft_run.proofs.Agreement.{Agrees-refl}
 use Rattle.haft_run.proofs.Grouping.{turns_of-grouped}
 use Rattle.haft_run.proofs.Places.{code_of-hardened}
-use Rattle.haft_run.proofs.Points.{Both, Stands, BothAbsent, BothRun, BothExit, EachWent, Goes, Ends, Simulates, IsGoing, IsOver}
+use Rattle.haft_run.proofs.Points.{Both, Stands, BothAbsent, BothRun, BothExit, EachWent, Goes, Simulates, IsGoing, IsOver}
 use Rattle.haft_run.proofs.Kept.{exits, ends}
-use Rattle.haft_run.proofs.Steps.{Here, at_point, next_point}
+use Rattle.haft_run.proofs.Steps.{at_point, next_point}
 
 -- a turn of a thread without frames
 exit_turn : (m : ModuleParts) (h : Machine) (t word : ℕ) (s : State) (answers : List Answer) → Goes m h s answers → source.thread_at s.threads t ≡ source.Exiting word → hard.thread_at h.threads t ≡ Exiting word → Simulates m (event m (hardened_functions m) h (Turn t))

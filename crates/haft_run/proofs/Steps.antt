@@ -1,5 +1,5 @@
 -- One hardened instruction at each point of an image.
-use Rattle.std.proofs.Common.{ℕ, zero, suc, ◌≡◌, ◌==◌, List, [], ◌∷◌, ◌++◌, Option, Some, None, Bool, true, false, refl, ap, sym, ◌∙◌, subst, drop, append_assoc}
+use Rattle.std.proofs.Common.{ℕ, suc, ◌≡◌, List, [], ◌∷◌, ◌++◌, Option, Some, None, true, refl, ap, sym, ◌∙◌, subst, drop, append_assoc}
 use Rattle.std.specs.List.{slice_index_or}
 use Rattle.std.proofs.lemmas.Bool.{eq-eqb}
 use Rattle.ir_core.specs.declared.types.Ty.{Ty}
@@ -23,11 +23,11 @@ use Rattle.ir_action.specs.declared.Fault.TheVariants.{Unassigned, Unsupported}
 use Rattle.ir_action.specs.declared.Action.{Action}
 use Rattle.ir_action.specs.declared.Action.TheVariants.{Assign, Ask, Return, Fault}
 use Rattle.ir_action.specs.Registers.{get, put}
-use Rattle.ir_action.specs.Action.{action_of, destination, word_of, on_word, operation, output, called, returned}
+use Rattle.ir_action.specs.Action.{action_of, word_of, on_word, operation, output, called, returned}
 use Rattle.hard_ir.specs.declared.HInst.{HInst}
 use Rattle.hard_ir.specs.declared.HInst.TheVariants.{Do, Chk}
 use Rattle.hard_ir.specs.declared.When.TheVariants.{Always}
-use Rattle.hard_ir.specs.Image.{no_flags, doubled, checked, check, checks, images}
+use Rattle.hard_ir.specs.Image.{no_flags, doubled, checked, checks, images}
 use Rattle.haft_run.specs.declared.state.Frame.{Frame}
 use Rattle.haft_run.specs.declared.state.Thread.TheVariants.{Running, Exiting}
 use Rattle.haft_run.specs.Source as source

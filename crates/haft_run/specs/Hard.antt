@@ -1,10 +1,9 @@
 -- The hardened machine: threads take turns, one hardened instruction a turn. There are no transactions
 -- yet, so that a check is active unless it is one for transactions alone, and a turn that retires joins
 -- the turns of the run at once.
-use Rattle.std.specs.Prelude.{ℕ, zero, suc, ◌+◌, ◌%◌, ◌^◌, ◌==◌, List, [], ◌∷◌, ◌++◌, Option, Some, None, Bool, true, false, slice_get, slice_set, codes, decimal}
+use Rattle.std.specs.Prelude.{ℕ, zero, suc, ◌%◌, ◌^◌, ◌==◌, List, [], ◌∷◌, ◌++◌, Option, Some, None, Bool, true, false, slice_get, slice_set, codes, decimal}
 use Rattle.std.specs.List.{slice_index_or}
 use Rattle.ir_core.specs.declared.types.Loc.{Loc}
-use Rattle.ir_core.specs.declared.types.Tid.{Tid}
 use Rattle.ir_core.specs.declared.values.Side.{Side}
 use Rattle.ir_core.specs.declared.values.Side.TheVariants.{M, S}
 use Rattle.ir_core.specs.declared.instruction.Block.{Block}

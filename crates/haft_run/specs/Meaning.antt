@@ -1,8 +1,8 @@
 -- What a run of the hardened program says of the source program.
-use Rattle.std.specs.Prelude.{ℕ, ◌≡◌, ◌↔◌, List, [], ◌∷◌, Option, Some, None, Bool, true, false}
+use Rattle.std.specs.Prelude.{ℕ, ◌≡◌, ◌↔◌, List, [], ◌∷◌, Option, Some, None}
 use Rattle.ir_core.specs.Module.{ModuleParts}
 use Rattle.haft_run.specs.declared.outcome.Stop.{Stop}
-use Rattle.haft_run.specs.declared.outcome.Stop.TheVariants.{End, Bound, Fail, Trap}
+use Rattle.haft_run.specs.declared.outcome.Stop.TheVariants.{End, Fail, Trap}
 use Rattle.haft_run.specs.declared.outcome.RunResult.{RunResult}
 use Rattle.haft_run.specs.Source.{Answer, Went, Idle, Undefined, Ended, source}
 use Rattle.haft_run.specs.Turns.{turns_of}

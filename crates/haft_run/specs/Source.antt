@@ -3,7 +3,7 @@
 -- Choices: threads are a list by number, also where there is one. A thread that isn't in the list was
 -- never made. The instruction at a thread's place is looked up, its action taken, and the action done.
 -- An instruction that can't be done is undefined, and leaves the state as it was.
-use Rattle.std.specs.Prelude.{ℕ, zero, suc, ◌+◌, ◌%◌, ◌^◌, List, [], ◌∷◌, ◌++◌, Option, Some, None, Bool, true, false, map, slice_get, slice_set}
+use Rattle.std.specs.Prelude.{ℕ, zero, suc, ◌%◌, ◌^◌, List, [], ◌∷◌, ◌++◌, Option, Some, None, Bool, true, false, map, slice_get, slice_set}
 use Rattle.std.specs.List.{slice_index_or}
 use Rattle.ir_core.specs.declared.types.Loc.{Loc}
 use Rattle.ir_core.specs.declared.values.Out.{Out}

@@ -1,6 +1,5 @@
 -- Turns as maximal runs, and the result of a run.
-use Rattle.std.specs.Prelude.{ℕ, suc, ◌==◌, List, [], ◌∷◌, ◌++◌, Option, Some, None, unwrap_or, if◌then◌else◌, map, replicate}
-use Rattle.std.specs.List.{flat_map}
+use Rattle.std.specs.Prelude.{ℕ, suc, ◌==◌, List, [], ◌∷◌, ◌++◌, unwrap_or, if◌then◌else◌, map, replicate}
 use Rattle.ir_core.specs.declared.types.Tid.{Tid}
 use Rattle.ir_core.specs.Module.{ModuleParts, FuncParts}
 use Rattle.hard_ir.specs.declared.HBlock.{HBlock}

@@ -1,4 +1,12 @@
-//! Hardening and running.
+//! Programs, hardened and run.
+//!
+//! `run_small` hardens a module and runs it on the hardened machine; its result is that of `specs/Hard.antt`
+//! on the image of `hard_ir`'s `specs/Image.antt`. Where the module comes to no undefined step, the result
+//! stands for a run of the source program (`specs/Source.antt`), as `specs/Meaning.antt` says. `report`
+//! writes a result as bytes (`specs/Report.antt`).
+//!
+//! The passes and the machine are private, and plain by design: they serve one block and one thread, and
+//! crates of their own take their place.
 #![tactic(auto)]
 
 mod frame;

@@ -46,11 +46,22 @@ pub enum HInst {
     /// Adds to the count of the work done.
     Tick(u32),
     /// Compares the master of a register with its shadow.
-    Chk { when: When, ty: Ty, reg: Loc },
+    Chk {
+        when: When,
+        ty: Ty,
+        reg: Loc,
+    },
     /// Compares the memory at an address with a value, inside a transaction.
-    ChkMem { ty: Ty, ptr: HVal, val: HVal },
+    ChkMem {
+        ty: Ty,
+        ptr: HVal,
+        val: HVal,
+    },
     /// Copies the master of a register to its shadow.
-    Mov { ty: Ty, reg: Loc },
+    Mov {
+        ty: Ty,
+        reg: Loc,
+    },
     /// Does an instruction of the source on the registers of one side. It retires the instruction where
     /// it is the one that stands for its turn in the source run.
     Do {

@@ -3,7 +3,7 @@
 -- Choices: an action names no destination, so that equal words give equal actions on either side and
 -- under any numbering. An instruction that reads an unassigned register is a fault, so that no proof
 -- above needs definite assignment.
-use Rattle.std.specs.Prelude.{ℕ, ◌+◌, ◌-◌, ◌*◌, ◌%◌, ◌^◌, List, [], ◌∷◌, Option, Some, None, if◌then◌else◌, codes, map}
+use Rattle.std.specs.Prelude.{ℕ, ◌+◌, ◌-◌, ◌*◌, ◌%◌, ◌^◌, List, [], ◌∷◌, Option, Some, None, if◌then◌else◌, codes}
 use Rattle.std.specs.List.{slice_index_or}
 use Rattle.std.specs.Str.{bytes_eq}
 use Rattle.ir_core.specs.declared.types.Width.{Width}

@@ -7,11 +7,12 @@ use Rattle.haft_cli.proofs.Files.{for_some, one_value}
 use Rattle.haft_cli.proofs.work.run_text.Goals as goal
 
 pub returns-in_default-clause-work : goal.returns-in_default-clause-work
-returns-in_default-clause-work c = λ first within text.
-    (for_some IsWithin first within,
-        for_some IsWithin c.args.second.now c.requires,
-        for_some IsSmallText first (c.args.m.now, text),
-        for_some (λ bytes. IsSmallSchedule bytes → ⊥) c.args.second.now (λ x. c.in_default.not-Some x.0 (c.read_turns.ensures.only x.0 x.1)))
+returns-in_default-clause-work c = λ first within text. (
+  for_some IsWithin first within,
+  for_some IsWithin c.args.second.now c.requires,
+  for_some IsSmallText first (c.args.m.now, text),
+  for_some (λ bytes. IsSmallSchedule bytes → ⊥) c.args.second.now (λ x. c.in_default.not-Some x.0 (c.read_turns.ensures.only x.0 x.1)),
+)
 
 pub returns-in_default-clause-run : goal.returns-in_default-clause-run
 returns-in_default-clause-run c = λ first turns text schedule. absurd (c.in_default.not-Some turns (c.read_turns.ensures.only turns schedule))

@@ -6,10 +6,11 @@ use Rattle.haft_cli.proofs.Files.{for_some, none_some, one_value}
 use Rattle.haft_cli.proofs.work.work_on.Goals as goal
 
 pub returns-in-None-clause-work : goal.returns-in-None-clause-work
-returns-in-None-clause-work c =
-    (for_some IsWithin c.args.first.now c.requires.first_within,
-        for_some IsWithin c.args.second.now c.requires.second_within,
-        for_some (λ text. IsSmallText text → ⊥) c.args.first.now (λ x. none_some c.in_ok-m.field-0 x.0 c.in-None.is (c.in_ok-m.ensures.only x.0 x.1)))
+returns-in-None-clause-work c = (
+  for_some IsWithin c.args.first.now c.requires.first_within,
+  for_some IsWithin c.args.second.now c.requires.second_within,
+  for_some (λ text. IsSmallText text → ⊥) c.args.first.now (λ x. none_some c.in_ok-m.field-0 x.0 c.in-None.is (c.in_ok-m.ensures.only x.0 x.1)),
+)
 
 pub returns-in-None-clause-run : goal.returns-in-None-clause-run
 returns-in-None-clause-run c = λ m turns text schedule. absurd (none_some c.in_ok-m.field-0 m c.in-None.is (c.in_ok-m.ensures.only m text))

@@ -1,4 +1,4 @@
-use Rattle.std.proofs.Common.{◌≡◌, length, ap, sym, ◌∙◌, arith}
+use Rattle.std.proofs.Common.{length, ap, sym, ◌∙◌, arith}
 use Rattle.haft_run.specs.State.{state_of}
 use Rattle.haft_run.specs.Hard.{Machine, Turn, opening, run_from}
 use Rattle.haft_run.specs.Turns.{turns_of_main, result_of}
