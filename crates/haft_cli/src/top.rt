@@ -6,7 +6,8 @@ ghost use Rattle.small_text.specs.SmallText.{SmallText};
 ghost use Rattle.small_text.specs.SmallSchedule.{SmallSchedule};
 ghost use Rattle.haft_run.specs.Turns.{run_on, turns_of_main};
 ghost use Rattle.haft_run.specs.Meaning.{Means};
-ghost use Rattle.haft_cli.specs.Command.{is_run_line, IsWithin, run_report};
+ghost use Rattle.haft_cli.specs.Command.{is_run_line, IsWithin, IsRefused, run_report};
+ghost use Rattle.haft_cli.specs.declared.command.Refusal.{Refusal};
 ghost use Rattle.haft_cli.specs.Written.{WritesReport, WritesRefusal, WritesPart, IsQuiet};
 ghost use Rattle.haft_cli.specs.Work.{IsRead, status_of, text_of};
 
@@ -75,6 +76,15 @@ pub fn haft<I: Inputs, O: Sink>(
     ensures quiet { IsQuiet result → out.new ≡ out.old }
     ensures read { result ≡ Status.Done → IsRead (I.left inputs.old) (I.left inputs.new) }
     ensures unread { result ≡ Status.Usage → inputs.new ≡ inputs.old }
+
+    // Where the files are to be refused, only want of memory stands in the way.
+    ensures refuses { (first second : List ℕ) (refusal : Refusal) → is_run_line (map string_bytes words.now) ≡ true
+        → I.left inputs.old Which.First ≡ Some first → I.left inputs.old Which.Second ≡ Some second
+        → IsRefused (Some first) (Some second) refusal
+        → ¬ Rose (I.faults inputs.old Which.First) (I.faults inputs.new Which.First)
+        → ¬ Rose (I.faults inputs.old Which.Second) (I.faults inputs.new Which.Second)
+        → ¬ Rose (O.faults out.old) (O.faults out.new)
+        → (result ≡ Status.Refused) ⊎ (result ≡ Status.NoMemory) }
 
     // For a small text and a small schedule the bytes written are exactly the report of the hardened run.
     ensures exact { (first second : List ℕ) (m : ModuleParts) (turns : ℕ) → result ≡ Status.Done

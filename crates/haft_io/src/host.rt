@@ -119,10 +119,18 @@ pub struct StdSink<'a, R: Print> {
     faults: u64,
 }
 
+impl<'a, R: Print> Model for StdSink<'a, R> {
+    ghost use Rattle.std.specs.Prelude.{ℕ};
+
+    ghost Value = { ℕ };
+
+    ghost view = { λ sink. sink.faults };
+}
+
 impl<'a, R: Print> StdSink<'a, R> {
-    /// The standard output of this runtime.
+    /// The standard output of this runtime. Contracts see it as the count of its faults.
     pub fn new(rt: &'a R) -> StdSink<'a, R>
-        ensures { ⟦<StdSink<'a, R> as Sink>⟧.faults result ≡ 0 }
+        ensures { result ≡ 0 }
     {
         StdSink { rt, faults: 0 }
     }
@@ -133,7 +141,7 @@ impl<'a, R: Print> Sink for StdSink<'a, R> {
 
     ghost written = { λ _. None };
 
-    ghost faults = { λ sink. sink.faults };
+    ghost faults = { λ sink. sink };
 
     fn write(&mut self, bytes: &[u8]) -> Result<usize, Failed> {
         match self.rt.write_some(bytes) {

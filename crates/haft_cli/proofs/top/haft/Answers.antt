@@ -1,4 +1,6 @@
-use Rattle.haft_cli.proofs.Finishes.{Writes-done}
+use Rattle.std.proofs.Common.{Some}
+use Rattle.haft_cli.specs.Work.{IsWork}
+use Rattle.haft_cli.proofs.Finishes.{Writes-done, status_of-refused, refused-done}
 use Rattle.haft_cli.proofs.top.haft.Goals as goal
 
 pub returns-in-Ok-clause-exact : goal.returns-in-Ok-clause-exact
@@ -8,3 +10,8 @@ returns-in-Ok-clause-exact g c = λ first second m turns done told_first told_se
 pub returns-in-Ok-clause-meaning : goal.returns-in-Ok-clause-meaning
 returns-in-Ok-clause-meaning g c = λ first second m turns done told_first told_second text schedule.
     (Writes-done c.finish.result c.in-Ok.work _ _ _ m turns c.finish.ensures.cases done (c.in-Ok.ensures.exact first second m turns told_first told_second text schedule)).means
+
+pub returns-in-Ok-clause-refuses : goal.returns-in-Ok-clause-refuses
+returns-in-Ok-clause-refuses g c = λ first second refusal words told_first told_second refused calm_first calm_second calm.
+    let told : IsWork (Some first) (Some second) c.in-Ok.work = rw (told_first, told_second) at c.in-Ok.ensures.work in
+    refused-done c.finish.result c.in-Ok.work _ _ _ c.finish.ensures.cases (status_of-refused first second c.in-Ok.work refusal told refused) calm
