@@ -6,9 +6,9 @@ use Rattle.ir_core.specs.declared.values.Val.{Val}
 use Rattle.ir_core.specs.declared.values.Val.TheVariants as values
 use Rattle.ir_core.specs.declared.instruction.Inst.{Inst}
 use Rattle.ir_core.specs.declared.instruction.Inst.TheVariants as insts
-use Rattle.ir_action.specs.declared.Callee.{Callee}
-use Rattle.ir_action.specs.declared.Callee.TheVariants.{HaftOut, Unknown}
-use Rattle.ir_action.specs.declared.Action.TheVariants.{Return}
+use Rattle.ir_action.specs.declared.actions.Callee.{Callee}
+use Rattle.ir_action.specs.declared.actions.Callee.TheVariants.{HaftOut, Unknown}
+use Rattle.ir_action.specs.declared.actions.Action.TheVariants.{Return}
 use Rattle.ir_action.specs.Registers.{get, put}
 use Rattle.ir_action.specs.Action.{action_of, word_of, output, called, returned, on_word, operation}
 

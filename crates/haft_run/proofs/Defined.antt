@@ -10,11 +10,11 @@ use Rattle.ir_core.specs.declared.instruction.Inst.{Inst}
 use Rattle.ir_core.specs.declared.instruction.Inst.TheVariants as insts
 use Rattle.ir_core.specs.Module.{ModuleParts}
 use Rattle.ir_core.proofs.Numbering.{slice_get-number_of}
-use Rattle.ir_action.specs.declared.Callee.{Callee}
-use Rattle.ir_action.specs.declared.Callee.TheVariants.{HaftOut, Unknown}
-use Rattle.ir_action.specs.declared.Action.{Action}
-use Rattle.ir_action.specs.declared.Action.TheVariants.{Assign, Ask, Return, Fault}
-use Rattle.ir_action.specs.declared.Request.TheVariants.{Output as Given}
+use Rattle.ir_action.specs.declared.actions.Callee.{Callee}
+use Rattle.ir_action.specs.declared.actions.Callee.TheVariants.{HaftOut, Unknown}
+use Rattle.ir_action.specs.declared.actions.Action.{Action}
+use Rattle.ir_action.specs.declared.actions.Action.TheVariants.{Assign, Ask, Return, Fault}
+use Rattle.ir_action.specs.declared.actions.Request.TheVariants.{Output as Given}
 use Rattle.ir_action.specs.Registers.{get, put}
 use Rattle.ir_action.specs.Action.{action_of, destination, word_of, on_word, operation}
 use Rattle.small_text.specs.Numbers.{IsName}

@@ -1,8 +1,8 @@
 -- How many turns an event adds.
 use Rattle.std.proofs.Common.{ℕ, zero, suc, ◌+◌, ◌≤◌, List, [], ◌∷◌, Option, Some, None, true, false, length, length-append, arith, slice_get}
 use Rattle.ir_core.specs.Module.{ModuleParts}
-use Rattle.hard_ir.specs.declared.HInst.{HInst}
-use Rattle.hard_ir.specs.declared.HBlock.{HBlock}
+use Rattle.hard_ir.specs.declared.instruction.HInst.{HInst}
+use Rattle.hard_ir.specs.declared.instruction.HBlock.{HBlock}
 use Rattle.haft_run.specs.declared.outcome.Stop.{Stop}
 use Rattle.haft_run.specs.declared.state.Frame.{Frame}
 use Rattle.haft_run.specs.declared.state.Thread.{Thread}

@@ -5,7 +5,7 @@ use Rattle.ir_core.specs.declared.values.Val.{Val}
 use Rattle.ir_core.specs.declared.values.Val.TheVariants as values
 use Rattle.ir_core.specs.declared.instruction.Inst.{Inst}
 use Rattle.ir_core.specs.declared.instruction.Inst.TheVariants as insts
-use Rattle.hard_ir.specs.declared.HInst.{HInst}
+use Rattle.hard_ir.specs.declared.instruction.HInst.{HInst}
 use Rattle.hard_ir.specs.Image.{check, checks, checked, doubled, image, images}
 use Rattle.std.proofs.lemmas.List.{at_drop_more}
 

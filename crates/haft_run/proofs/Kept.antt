@@ -2,10 +2,10 @@
 use Rattle.std.proofs.Common.{ℕ, zero, suc, ◌≡◌, ◌<◌, ◌%◌, ◌^◌, List, [], ◌∷◌, ◌++◌, Some, true, refl, ap, sym, ◌∙◌, subst, length, slice_set, drop, arith}
 use Rattle.ir_core.specs.declared.instruction.Inst.{Inst}
 use Rattle.ir_core.specs.Module.{ModuleParts}
-use Rattle.ir_action.specs.declared.Fault.{Fault as Faults}
-use Rattle.ir_action.specs.declared.Action.{Action}
+use Rattle.ir_action.specs.declared.actions.Fault.{Fault as Faults}
+use Rattle.ir_action.specs.declared.actions.Action.{Action}
 use Rattle.ir_action.specs.Action.{action_of, destination}
-use Rattle.hard_ir.specs.declared.HInst.{HInst}
+use Rattle.hard_ir.specs.declared.instruction.HInst.{HInst}
 use Rattle.haft_run.specs.declared.state.Frame.{Frame}
 use Rattle.haft_run.specs.declared.state.Thread.{Thread}
 use Rattle.haft_run.specs.declared.state.Thread.TheVariants.{Absent, Running, Exiting}
@@ -15,7 +15,7 @@ use Rattle.haft_run.specs.Hard as hard
 use Rattle.haft_run.specs.Hard.{Machine, Turn, event}
 use Rattle.haft_run.specs.Turns.{hardened_functions}
 use Rattle.haft_run.specs.Meaning.{AllWent, code_of, NoneUndefined, IsDefined}
-use Rattle.ir_action.specs.declared.Fault.TheVariants.{Unsupported}
+use Rattle.ir_action.specs.declared.actions.Fault.TheVariants.{Unsupported}
 use Rattle.haft_run.proofs.Places.{slice_get-drop, slice_get-drop_none}
 use Rattle.haft_run.proofs.Lists.{SetAt, Same, Other, set_at}
 use Rattle.haft_run.proofs.Points.{Both, RunsAt, Stands, BothAbsent, BothRun, Reached, EachWent, Goes, Ends}

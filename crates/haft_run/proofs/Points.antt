@@ -12,12 +12,12 @@ use Rattle.ir_core.specs.declared.instruction.Flags.{Flags}
 use Rattle.ir_core.specs.declared.instruction.Inst.{Inst}
 use Rattle.ir_core.specs.declared.instruction.Inst.TheVariants as insts
 use Rattle.ir_core.specs.Module.{ModuleParts}
-use Rattle.ir_action.specs.declared.Callee.{Callee}
-use Rattle.ir_action.specs.declared.Action.TheVariants.{Assign}
+use Rattle.ir_action.specs.declared.actions.Callee.{Callee}
+use Rattle.ir_action.specs.declared.actions.Action.TheVariants.{Assign}
 use Rattle.ir_action.specs.Registers.{put}
 use Rattle.ir_action.specs.Action.{action_of}
-use Rattle.hard_ir.specs.declared.HInst.{HInst}
-use Rattle.hard_ir.specs.declared.HInst.TheVariants.{Do}
+use Rattle.hard_ir.specs.declared.instruction.HInst.{HInst}
+use Rattle.hard_ir.specs.declared.instruction.HInst.TheVariants.{Do}
 use Rattle.hard_ir.specs.Image.{no_flags, doubled, checked, checks, images}
 use Rattle.haft_run.specs.declared.outcome.Stop.TheVariants.{End}
 use Rattle.haft_run.specs.declared.state.Frame.{Frame}

@@ -1,7 +1,7 @@
 -- A run over equal events, one by one.
 use Rattle.std.proofs.Common.{ℕ, suc, ◌≡◌, ◌+◌, ◌-◌, ◌<◌, ◌≤◌, List, replicate, ap, arith}
 use Rattle.ir_core.specs.Module.{ModuleParts}
-use Rattle.hard_ir.specs.declared.HBlock.{HBlock}
+use Rattle.hard_ir.specs.declared.instruction.HBlock.{HBlock}
 use Rattle.haft_run.specs.Hard.{Machine, Event, event, run_from}
 
 pub run_from-replicate : (m : ModuleParts) (functions : List (List HBlock)) (h : Machine) (e : Event) (n i : ℕ) → i < n → run_from m functions h (replicate (n - i) e) ≡ run_from m functions (event m functions h e) (replicate (n - (i + 1)) e)

@@ -15,18 +15,18 @@ use Rattle.ir_core.specs.declared.instruction.Flags.{Flags}
 use Rattle.ir_core.specs.declared.instruction.Inst.{Inst}
 use Rattle.ir_core.specs.declared.instruction.Inst.TheVariants as insts
 use Rattle.ir_core.specs.Module.{ModuleParts}
-use Rattle.ir_action.specs.declared.Callee.{Callee}
-use Rattle.ir_action.specs.declared.Callee.TheVariants.{HaftOut, Unknown}
-use Rattle.ir_action.specs.declared.Request.{Request}
-use Rattle.ir_action.specs.declared.Fault.{Fault as Faults}
-use Rattle.ir_action.specs.declared.Fault.TheVariants.{Unassigned, Unsupported}
-use Rattle.ir_action.specs.declared.Action.{Action}
-use Rattle.ir_action.specs.declared.Action.TheVariants.{Assign, Ask, Return, Fault}
+use Rattle.ir_action.specs.declared.actions.Callee.{Callee}
+use Rattle.ir_action.specs.declared.actions.Callee.TheVariants.{HaftOut, Unknown}
+use Rattle.ir_action.specs.declared.actions.Request.{Request}
+use Rattle.ir_action.specs.declared.actions.Fault.{Fault as Faults}
+use Rattle.ir_action.specs.declared.actions.Fault.TheVariants.{Unassigned, Unsupported}
+use Rattle.ir_action.specs.declared.actions.Action.{Action}
+use Rattle.ir_action.specs.declared.actions.Action.TheVariants.{Assign, Ask, Return, Fault}
 use Rattle.ir_action.specs.Registers.{get, put}
 use Rattle.ir_action.specs.Action.{action_of, word_of, on_word, operation, output, called, returned}
-use Rattle.hard_ir.specs.declared.HInst.{HInst}
-use Rattle.hard_ir.specs.declared.HInst.TheVariants.{Do, Chk}
-use Rattle.hard_ir.specs.declared.When.TheVariants.{Always}
+use Rattle.hard_ir.specs.declared.instruction.HInst.{HInst}
+use Rattle.hard_ir.specs.declared.instruction.HInst.TheVariants.{Do, Chk}
+use Rattle.hard_ir.specs.declared.instruction.When.TheVariants.{Always}
 use Rattle.hard_ir.specs.Image.{no_flags, doubled, checked, checks, images}
 use Rattle.haft_run.specs.declared.state.Frame.{Frame}
 use Rattle.haft_run.specs.declared.state.Thread.TheVariants.{Running, Exiting}

@@ -8,16 +8,16 @@ use Rattle.ir_core.specs.declared.values.Side.{Side}
 use Rattle.ir_core.specs.declared.values.Side.TheVariants.{M, S}
 use Rattle.ir_core.specs.declared.instruction.Block.{Block}
 use Rattle.ir_core.specs.Module.{ModuleParts, FuncParts}
-use Rattle.ir_action.specs.declared.Callee.{Callee}
-use Rattle.ir_action.specs.declared.Action.{Action}
-use Rattle.ir_action.specs.declared.Action.TheVariants.{Assign, Ask, Return, Fault}
+use Rattle.ir_action.specs.declared.actions.Callee.{Callee}
+use Rattle.ir_action.specs.declared.actions.Action.{Action}
+use Rattle.ir_action.specs.declared.actions.Action.TheVariants.{Assign, Ask, Return, Fault}
 use Rattle.ir_action.specs.Registers.{get, put}
 use Rattle.ir_action.specs.Action.{action_of, destination}
-use Rattle.hard_ir.specs.declared.When.{When}
-use Rattle.hard_ir.specs.declared.When.TheVariants.{Always, Plain, Tx}
-use Rattle.hard_ir.specs.declared.HInst.{HInst}
-use Rattle.hard_ir.specs.declared.HInst.TheVariants.{Do, Chk, Mov}
-use Rattle.hard_ir.specs.declared.HBlock.{HBlock}
+use Rattle.hard_ir.specs.declared.instruction.When.{When}
+use Rattle.hard_ir.specs.declared.instruction.When.TheVariants.{Always, Plain, Tx}
+use Rattle.hard_ir.specs.declared.instruction.HInst.{HInst}
+use Rattle.hard_ir.specs.declared.instruction.HInst.TheVariants.{Do, Chk, Mov}
+use Rattle.hard_ir.specs.declared.instruction.HBlock.{HBlock}
 use Rattle.haft_run.specs.declared.outcome.Stop.{Stop}
 use Rattle.haft_run.specs.declared.outcome.Stop.TheVariants.{End, Fail, Trap}
 use Rattle.haft_run.specs.declared.state.Frame.{Frame}

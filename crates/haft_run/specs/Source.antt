@@ -11,13 +11,13 @@ use Rattle.ir_core.specs.declared.values.Out.TheVariants.{Num}
 use Rattle.ir_core.specs.declared.instruction.Block.{Block}
 use Rattle.ir_core.specs.declared.instruction.Inst.{Inst}
 use Rattle.ir_core.specs.Module.{ModuleParts, FuncParts}
-use Rattle.ir_action.specs.declared.Callee.{Callee}
-use Rattle.ir_action.specs.declared.Request.{Request}
-use Rattle.ir_action.specs.declared.Request.TheVariants.{Output}
-use Rattle.ir_action.specs.declared.Fault.{Fault as Faults}
-use Rattle.ir_action.specs.declared.Fault.TheVariants.{Unsupported}
-use Rattle.ir_action.specs.declared.Action.{Action}
-use Rattle.ir_action.specs.declared.Action.TheVariants.{Assign, Ask, Return, Fault}
+use Rattle.ir_action.specs.declared.actions.Callee.{Callee}
+use Rattle.ir_action.specs.declared.actions.Request.{Request}
+use Rattle.ir_action.specs.declared.actions.Request.TheVariants.{Output}
+use Rattle.ir_action.specs.declared.actions.Fault.{Fault as Faults}
+use Rattle.ir_action.specs.declared.actions.Fault.TheVariants.{Unsupported}
+use Rattle.ir_action.specs.declared.actions.Action.{Action}
+use Rattle.ir_action.specs.declared.actions.Action.TheVariants.{Assign, Ask, Return, Fault}
 use Rattle.ir_action.specs.Registers.{put}
 use Rattle.ir_action.specs.Action.{action_of, callee_of, destination}
 

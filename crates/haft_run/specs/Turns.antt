@@ -2,7 +2,7 @@
 use Rattle.std.specs.Prelude.{ℕ, suc, ◌==◌, List, [], ◌∷◌, ◌++◌, unwrap_or, if◌then◌else◌, map, replicate}
 use Rattle.ir_core.specs.declared.types.Tid.{Tid}
 use Rattle.ir_core.specs.Module.{ModuleParts, FuncParts}
-use Rattle.hard_ir.specs.declared.HBlock.{HBlock}
+use Rattle.hard_ir.specs.declared.instruction.HBlock.{HBlock}
 use Rattle.hard_ir.specs.Image.{hardened}
 use Rattle.haft_run.specs.declared.outcome.Stop.TheVariants.{Bound}
 use Rattle.haft_run.specs.declared.outcome.RunResult.{RunResult}

@@ -5,7 +5,7 @@
 ghost use Rattle.std.specs.Prelude.{◌≡◌, ◌+◌, ◌<◌, ◌^◌, ◌++◌, ◌∷◌, [], length, slice_get, IfOk, OnOk, OnSome, codes, decimal};
 ghost use Rattle.std.specs.Option.{option_copied};
 ghost use Rattle.std.specs.List.{slice_index_or};
-ghost use Rattle.ir_action.specs.declared.Request.TheVariants.{Output};
+ghost use Rattle.ir_action.specs.declared.actions.Request.TheVariants.{Output};
 ghost use Rattle.haft_run.specs.Source.{callees as callees_of, world_after, blocks_of};
 ghost use Rattle.haft_run.specs.Hard.{opening, retired, thread_after, event, turned, fetched, exited, after_effect, code_of, place_of, function_name, label_of, Turn};
 ghost use Rattle.haft_run.specs.Turns.{result_of};

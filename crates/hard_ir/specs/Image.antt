@@ -14,10 +14,10 @@ use Rattle.ir_core.specs.declared.instruction.Inst.{Inst}
 use Rattle.ir_core.specs.declared.instruction.Inst.TheVariants as insts
 use Rattle.ir_core.specs.declared.instruction.Flags.{Flags}
 use Rattle.ir_core.specs.declared.instruction.Block.{Block}
-use Rattle.hard_ir.specs.declared.When.TheVariants.{Always}
-use Rattle.hard_ir.specs.declared.HInst.{HInst}
-use Rattle.hard_ir.specs.declared.HInst.TheVariants.{Chk, Do}
-use Rattle.hard_ir.specs.declared.HBlock.{HBlock}
+use Rattle.hard_ir.specs.declared.instruction.When.TheVariants.{Always}
+use Rattle.hard_ir.specs.declared.instruction.HInst.{HInst}
+use Rattle.hard_ir.specs.declared.instruction.HInst.TheVariants.{Chk, Do}
+use Rattle.hard_ir.specs.declared.instruction.HBlock.{HBlock}
 
 -- hardened operations have no flags: a result that a flag makes poison is no concern of the hardening
 abbrev pub no_flags : Flags

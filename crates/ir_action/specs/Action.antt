@@ -16,12 +16,12 @@ use Rattle.ir_core.specs.declared.instruction.BinOp.{BinOp}
 use Rattle.ir_core.specs.declared.instruction.BinOp.TheVariants.{Add, Sub, Mul}
 use Rattle.ir_core.specs.declared.instruction.Inst.{Inst}
 use Rattle.ir_core.specs.declared.instruction.Inst.TheVariants as insts
-use Rattle.ir_action.specs.declared.Callee.{Callee}
-use Rattle.ir_action.specs.declared.Callee.TheVariants.{HaftOut, Unknown}
-use Rattle.ir_action.specs.declared.Request.TheVariants.{Output}
-use Rattle.ir_action.specs.declared.Fault.TheVariants.{Unassigned, Unsupported}
-use Rattle.ir_action.specs.declared.Action.{Action}
-use Rattle.ir_action.specs.declared.Action.TheVariants.{Assign, Ask, Return, Fault}
+use Rattle.ir_action.specs.declared.actions.Callee.{Callee}
+use Rattle.ir_action.specs.declared.actions.Callee.TheVariants.{HaftOut, Unknown}
+use Rattle.ir_action.specs.declared.actions.Request.TheVariants.{Output}
+use Rattle.ir_action.specs.declared.actions.Fault.TheVariants.{Unassigned, Unsupported}
+use Rattle.ir_action.specs.declared.actions.Action.{Action}
+use Rattle.ir_action.specs.declared.actions.Action.TheVariants.{Assign, Ask, Return, Fault}
 use Rattle.ir_action.specs.Registers.{get}
 
 -- what a name stands for where it is called

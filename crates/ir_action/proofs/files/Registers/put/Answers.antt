@@ -1,8 +1,8 @@
 -- The file is grown by registers without words where it is too short, and then the word is set.
 use Rattle.std.proofs.Common.{arith}
 use Rattle.ir_action.proofs.Puts.{put-within, put-resized}
-use Rattle.ir_action.proofs.Registers.put.Goals as goal
-use Rattle.ir_action.proofs.Registers.put.Goals.{then-at-len+in_ok-resize, else-at-len}
+use Rattle.ir_action.proofs.files.Registers.put.Goals as goal
+use Rattle.ir_action.proofs.files.Registers.put.Goals.{then-at-len+in_ok-resize, else-at-len}
 
 pub returns : goal.returns
 returns c =

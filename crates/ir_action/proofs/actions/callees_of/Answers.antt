@@ -1,7 +1,7 @@
 use Rattle.std.proofs.Common.{sym}
 use Rattle.ir_action.specs.Action.{callee_of}
 use Rattle.ir_action.proofs.Takes.{map-take_more}
-use Rattle.ir_action.proofs.callees_of.Goals as goal
+use Rattle.ir_action.proofs.actions.callees_of.Goals as goal
 
 pub loop-number-preserved : goal.loop-number-preserved
 loop-number-preserved c =
