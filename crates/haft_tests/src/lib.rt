@@ -1,0 +1,18 @@
+//! Tests of the crates below: what no clause says, each public call once with memory enough, and the
+//! devices' faults at every place.
+#![tactic(auto)]
+
+#[cfg(test)]
+mod calls;
+#[cfg(test)]
+mod faults;
+#[cfg(test)]
+mod instructions;
+#[cfg(test)]
+mod names;
+#[cfg(test)]
+mod parts;
+#[cfg(test)]
+mod pieces;
+#[cfg(test)]
+mod texts;
