@@ -1,3 +1,9 @@
 pub mod Blocks
 mod Keys
 pub mod Numbering
+pub mod Lengths
+pub mod Found
+pub mod OneKind
+pub mod LongestToken
+pub mod TokenLaws
+pub mod DroppedLines

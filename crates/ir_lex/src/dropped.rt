@@ -1,0 +1,131 @@
+//! Lines that are dropped without being cut into tokens.
+ghost use Rattle.std.specs.Prelude.{◌≡◌, ◌≤◌, ◌↔◌, length, IsTrue};
+ghost use Rattle.std.specs.List.{prefix_len};
+ghost use Rattle.ir_core.specs.Tokens.{is_blank, begins_word};
+ghost use Rattle.ir_core.specs.Lines.{past_blanks, first_word, externals, IsDropped};
+ghost use Rattle.ir_core.specs.Dropping.{isnt_at, has_at, name_at, is_among, begins, is_header, is_foreign, is_debug, is_dropped};
+
+use crate::lengths::{begins_word, is_blank, name_len};
+
+fn blanks_len(line: &[u8]) -> usize
+    ensures len { result ≡ prefix_len is_blank line.now }
+    ensures within { result ≤ length line.now }
+{
+    let mut len = 0;
+    for &byte in line {
+        if !is_blank(byte) {
+            break;
+        }
+        len += 1;
+    }
+    len
+}
+
+fn word_len(line: &[u8]) -> usize
+    ensures len { result ≡ prefix_len begins_word line.now }
+    ensures within { result ≤ length line.now }
+{
+    let mut len = 0;
+    for &byte in line {
+        if !begins_word(byte) {
+            break;
+        }
+        len += 1;
+    }
+    len
+}
+
+/// How many bytes stand before the first `@`.
+fn before_at(line: &[u8]) -> usize
+    ensures len { result ≡ prefix_len isnt_at line.now }
+    ensures within { result ≤ length line.now }
+{
+    let mut len = 0;
+    for &byte in line {
+        if byte == b'@' {
+            break;
+        }
+        len += 1;
+    }
+    len
+}
+
+fn past_blanks(line: &[u8]) -> &[u8]
+    ensures { result.now ≡ past_blanks line.now }
+{
+    line.split_at(blanks_len(line)).1
+}
+
+fn first_word(line: &[u8]) -> &[u8]
+    ensures { result.now ≡ first_word line.now }
+{
+    let rest = past_blanks(line);
+    rest.split_at(word_len(rest)).0
+}
+
+fn is_external(name: &[u8]) -> bool
+    ensures { result ≡ is_among externals name.now }
+{
+    name == b"pthread_create".as_slice()
+        || name == b"pthread_join".as_slice()
+        || name == b"pthread_mutex_lock".as_slice()
+        || name == b"pthread_mutex_unlock".as_slice()
+        || name == b"putchar".as_slice()
+        || name == b"exit".as_slice()
+        || name == b"malloc".as_slice()
+        || name == b"free".as_slice()
+        || name == b"haft_out".as_slice()
+        || name == b"haft_arg".as_slice()
+}
+
+#[tactic(auto, unfolding(ir_core::specs::Dropping::is_header))]
+fn is_header(line: &[u8]) -> bool
+    ensures { result ≡ is_header line.now }
+{
+    let word = first_word(line);
+    word == b"source_filename".as_slice()
+        || word == b"target".as_slice()
+        || word == b"attributes".as_slice()
+        || line.starts_with(b"!")
+}
+
+/// Whether the line declares something that is no external.
+#[tactic(auto, unfolding(ir_core::specs::Dropping::is_foreign))]
+fn is_foreign(line: &[u8]) -> bool
+    ensures { result ≡ is_foreign line.now }
+{
+    if first_word(line) != b"declare".as_slice() {
+        return false;
+    }
+    let at = before_at(line);
+    if at == line.len() {
+        return false;
+    }
+    let rest = &line[at + 1..];
+    !is_external(&rest[..name_len(rest)])
+}
+
+#[tactic(auto, unfolding(ir_core::specs::Dropping::is_debug))]
+fn is_debug(rest: &[u8]) -> bool
+    ensures { result ≡ is_debug rest.now }
+{
+    rest.starts_with(b"#dbg_")
+        || rest.starts_with(b"call void @llvm.dbg.")
+        || rest.starts_with(b"call void @llvm.lifetime.")
+        || rest.starts_with(b"tail call void @llvm.dbg.")
+        || rest.starts_with(b"tail call void @llvm.lifetime.")
+}
+
+#[tactic(auto, unfolding(ir_core::specs::Dropping::is_dropped))]
+fn has_dropped_form(inside: bool, line: &[u8]) -> bool
+    ensures { result ≡ is_dropped inside line.now }
+{
+    is_header(line) || is_foreign(line) || inside && is_debug(past_blanks(line))
+}
+
+/// Whether a line is dropped without being cut into tokens, `inside` a function or outside.
+pub fn is_dropped(inside: bool, line: &[u8]) -> bool
+    ensures { IsTrue result ↔ IsDropped inside line.now }
+{
+    has_dropped_form(inside, line)
+}
