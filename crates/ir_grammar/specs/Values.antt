@@ -1,0 +1,83 @@
+-- Values as a line writes them (LLVM Language Reference, 'Constants').
+--
+-- Choices: a value stands behind its type, which says what fits. A register fits behind any type; whether its own
+-- type is the written one is no matter of the text. A part is told how many brackets may be opened inside a
+-- value's parentheses.
+use Rattle.std.specs.Prelude.{ℕ, List, [], ◌∷◌, codes, Option, Some, None, option_map}
+use Rattle.ir_core.specs.declared.text.TokKind.TheVariants.{Word, Local, At, Num}
+use Rattle.ir_core.specs.declared.types.Width.{Width}
+use Rattle.ir_core.specs.declared.types.Width.TheVariants.{W1}
+use Rattle.ir_core.specs.declared.types.Sym.{Sym}
+use Rattle.ir_core.specs.declared.types.Ty.{Ty}
+use Rattle.ir_core.specs.declared.types.Ty.TheVariants as types
+use Rattle.ir_core.specs.declared.values.Val.{Val}
+use Rattle.ir_core.specs.declared.values.Val.TheVariants as values
+use Rattle.ir_core.specs.declared.values.ConstGep.{ConstGep}
+use Rattle.ir_grammar.specs.declared.heads.FlagSet.TheVariants.{Gep}
+use Rattle.ir_grammar.specs.declared.heads.ValueHead.{ValueHead}
+use Rattle.ir_grammar.specs.declared.heads.ValueHead.TheVariants as heads
+use Rattle.ir_grammar.specs.Parts.{Tok, Part, gives, one, ◌>>=◌, star, heads as starts}
+use Rattle.ir_grammar.specs.Tokens.{is_punct, name_place, keyword, punct, comma, open_paren, close_paren}
+use Rattle.ir_grammar.specs.Numbers.{bits, word_written}
+use Rattle.ir_grammar.specs.Words.{entry, flags}
+use Rattle.ir_grammar.specs.Types.{width, typ}
+
+-- ---- constants of one token
+
+-- `true` and `false` are the integers of `i1`
+abbrev pub truth : Width → List ℕ → Option ℕ
+truth w = elim w as (λ _. List ℕ → Option ℕ) [ W1 ↦ entry ((codes "true", 1) ∷ (codes "false", 0) ∷ []) | _ ↦ entry [] ]
+
+-- an integer of the width
+abbrev pub integer_of : Width → Tok → Option ℕ
+integer_of w t = elim t.kind as (λ _. Option ℕ) [ Num ↦ word_written (bits w) t.text | Word ↦ truth w t.text | _ ↦ None ]
+
+abbrev pub integer : Width → Part ℕ
+integer w = one (integer_of w)
+
+-- the place of an `@` name
+abbrev pub sym_of : Tok → Option Sym
+sym_of t = elim t.kind as (λ _. Option Sym) [ At ↦ Some (record { 0 = name_place t }) | _ ↦ None ]
+
+abbrev pub symbol : Part Sym
+symbol = one sym_of
+
+-- ---- constant getelementptr (LLVM Language Reference, 'Constant Expressions')
+
+-- an integer type and a number of it
+abbrev pub constant_index : Part (Width × ℕ)
+constant_index = width >>= λ w. integer w >>= λ n. gives (w, n)
+
+-- what stands behind the word, with so many brackets at most inside the parentheses
+unfoldable pub const_gep : ℕ → Part ConstGep
+const_gep inner =
+    flags Gep >>= λ _. punct open_paren >>= λ _. typ inner >>= λ base. punct comma >>= λ _. keyword (codes "ptr") >>= λ _. symbol >>= λ sym.
+    punct comma >>= λ _. constant_index >>= λ index. star (starts (is_punct comma)) (punct comma >>= λ _. constant_index) >>= λ others. punct close_paren >>= λ _.
+    gives (record { base = base; sym = sym; index = index ∷ others })
+
+-- ---- values
+
+abbrev pub null_word : List ℕ → Option ValueHead
+null_word = entry ((codes "null", heads.Null) ∷ (codes "getelementptr", heads.Gep) ∷ [])
+
+-- `null`, an `@` name, or the word of a constant getelementptr
+abbrev pub pointer_head : Tok → Option ValueHead
+pointer_head t = elim t.kind as (λ _. Option ValueHead) [ Word ↦ null_word t.text | At ↦ Some (heads.Global (record { 0 = name_place t })) | _ ↦ None ]
+
+abbrev pub constant_head : Ty → Tok → Option ValueHead
+constant_head ty t = elim ty as (λ _. Option ValueHead) [ types.Int w ↦ option_map heads.Int (integer_of w t) | types.Ptr ↦ pointer_head t | _ ↦ None ]
+
+-- what the first token of a value of the type says
+abbrev pub value_head : Ty → Tok → Option ValueHead
+value_head ty t = elim t.kind as (λ _. Option ValueHead) [ Local ↦ Some (heads.Reg (record { 0 = name_place t })) | _ ↦ constant_head ty t ]
+
+abbrev pub value_rest : ℕ → ValueHead → Part Val
+value_rest inner (heads.Reg loc) = gives (values.Reg loc)
+value_rest inner (heads.Int n) = gives (values.Int n)
+value_rest inner heads.Null = gives values.Null
+value_rest inner (heads.Global sym) = gives (values.Global sym)
+value_rest inner heads.Gep = const_gep inner >>= λ gep. gives (values.Gep gep)
+
+-- a value of the type
+unfoldable pub value : ℕ → Ty → Part Val
+value inner ty = one (value_head ty) >>= value_rest inner

@@ -1,0 +1,15 @@
+//! The grammar of instruction lines: what the tokens of a line stand for.
+//!
+//! `specs/Lines.antt` has one form for each instruction, in the order of the language's table, made of the
+//! named parts of `Words`, `Numbers`, `Types`, `Values` and `Tails`. A part says what tokens mean, and how they
+//! are read from the left (`specs/Parts.antt`); that both say the same is proved here, once for each way to
+//! make a part (`proofs/Reading.antt`). Readers of lines prove that they read a part, and tell what it means.
+#![tactic(auto)]
+
+mod heads;
+mod laws;
+
+pub use heads::{
+    AttributeHead, Flag, FlagSet, PlainOpcode, ResultHead, ResultOpcode, TypeHead, ValueHead,
+};
+pub use laws::{instruction_or_unfit, never_both, one_instruction, one_unfit_place};
