@@ -1,5 +1,5 @@
 -- Each line form is read as it means.
-use Rattle.std.proofs.Common.{ℕ, zero, suc, ◌≡◌, Bool, true, false, not, List, Option, Some, None, refl, sym, ap, ◌∙◌, ◌⊎◌, inl, inr, ⊎_elim}
+use Rattle.std.proofs.Common.{◌∷◌, ℕ, zero, suc, ◌≡◌, Bool, true, false, not, List, Option, Some, None, refl, sym, ap, ◌∙◌, ◌⊎◌, inl, inr, ⊎_elim}
 use Rattle.std.specs.Prelude.{codes, is_some, is_none, option_and_then}
 use Rattle.std.specs.List.{list_all}
 use Rattle.ir_core.specs.declared.text.TokKind.{TokKind}
@@ -32,7 +32,7 @@ use Rattle.ir_grammar.specs.Types.{width_word, memory_word, width, memory_type, 
 use Rattle.ir_grammar.specs.Values.{value_head, value_rest, value}
 use Rattle.ir_grammar.specs.Tails.{goes_on, attribute_word, attributes}
 use Rattle.ir_grammar.specs.Lines.{operand, pointer, comma_pointer, comma_operand, comma_same, label, comma_label, index, binary, comparison, selection, conversion, element, allocation, loading, updating, exchange, extraction, arm, phi, callee_of, argument, call, marked_call, storing, fencing, branch, arm_of_switch, switching, return, line_with, line_without, result_line, instruction}
-use Rattle.ir_grammar.proofs.Reading.{IsRead, Anywhere, AtEnd, Fails, Refuses, gives_law, one_law, then_law, then_other, either_head, optional_law}
+use Rattle.ir_grammar.proofs.Reading.{IsRead, Anywhere, AtEnd, Fails, Refuses, gives_law, one_law, then_law, then_other, either_head, optional_law, seen_law}
 use Rattle.ir_grammar.proofs.Rows.{star_heads}
 use Rattle.ir_grammar.proofs.Refusals.{word_token, at_word, at_punct, at_bang, at_hash, at_local, at_entry, not_known, one_refuses, then_refuses}
 use Rattle.ir_grammar.proofs.PartLaws.{keyword_law, punct_law, local_law, table_law, width_law, scalar_law, memory_type_law, rmw_type_law, integer_law, count_law, punct_refuses, listed_law, typ_law, typ_refuses, typ_at_paren, result_type_law, flags_law, value_law, order_law, order_of_law, attributes_law}
@@ -146,7 +146,7 @@ module _ (dst : Loc) where
   element_law : IsRead AtEnd (element dst)
   unfolding element
   element_law = after_flags Gep _
-      (λ kept. then_law (typ_law 64) (λ base front m. then_law comma_pointer_law (λ ptr front m. then_law index_law (λ first front m. then_over indices_law (λ others. finished_law _) (λ others. finished_closes _)))))
+      (λ kept. then_law (typ_law 64) (λ base front m. then_law comma_pointer_law (λ ptr front m. then_law index_law (λ first front m. then_over (seen_law (λ others. first ∷ others) _ indices_law) (λ others. finished_law _) (λ others. finished_closes _)))))
       (λ kept t e. then_refuses (typ 64) _ t (typ_at_entry gep_flags 64 (λ at. refl) (λ at. refl) t e))
 
   allocation_law : IsRead AtEnd (allocation dst)
@@ -187,7 +187,7 @@ module _ (dst : Loc) where
 
   phi_law : IsRead AtEnd (phi dst)
   unfolding phi
-  phi_law = then_law scalar_law (λ ty front m. then_law (arm_law ty) (λ first front m. then_over (arms_law ty) (λ others. finished_law _) (λ others. finished_closes _)))
+  phi_law = then_law scalar_law (λ ty front m. then_law (arm_law ty) (λ first front m. then_over (seen_law (λ others. first ∷ others) _ (arms_law ty)) (λ others. finished_law _) (λ others. finished_closes _)))
 
 -- ---- calls
 
@@ -213,10 +213,9 @@ argument_law = then_law (typ_law 63) (λ ty front m. then_other (λ t. is_some (
     (λ _ front m t e. then_refuses (value 62 ty) _ t (value_refuses 62 ty t (at_entry (value_head ty) attribute_rows (value_at_attribute ty) t e))))
 
 -- a word of linkage or of attributes is none of a type
-result_refuses : (n : ℕ) (t : Tok) → result_head true t ≡ None → result_head false t ≡ None → Refuses (result_type n) t
+result_refuses : (inner : ℕ) (t : Tok) → result_head t ≡ None → Refuses (result_type inner) t
 unfolding result_type
-result_refuses zero t e h = then_refuses (one (result_head false)) _ t (one_refuses (result_head false) t h)
-result_refuses (suc n) t e h = then_refuses (one (result_head true)) _ t (one_refuses (result_head true) t e)
+result_refuses inner t e = then_refuses (one result_head) _ t (one_refuses result_head t e)
 
 either_table : {A : Type 0} (f g : List ℕ → Option A) (o : Option (List ℕ)) → is_some (option_and_then (λ word. or_else (f word) (g word)) o) ≡ true → (is_some (option_and_then f o) ≡ true) ⊎ (is_some (option_and_then g o) ≡ true)
 either_table f g None e = absurd cc
@@ -226,8 +225,8 @@ either_table {A} f g (Some word) e = by (f word) e
     by None e = inr e
     by (Some a) e = inl refl
 
-linkage_refused : (b : Bool) → ((at : ℕ) → list_all (λ row. is_none (result_head b (word_token row.0 at))) attribute_rows ≡ true) → ((at : ℕ) → list_all (λ row. is_none (result_head b (word_token row.0 at))) (rows_of Whole linkage_words) ≡ true) → (t : Tok) → is_some (in_table (attribute_word true) t) ≡ true → result_head b t ≡ None
-linkage_refused b attributes linkage t e = ⊎_elim (λ h. at_entry (result_head b) attribute_rows attributes t h) (λ h. at_entry (result_head b) (rows_of Whole linkage_words) linkage t h) (either_table (entry attribute_rows) (entry (rows_of Whole linkage_words)) (word_of t) e)
+linkage_refused : (t : Tok) → is_some (in_table (attribute_word true) t) ≡ true → result_head t ≡ None
+linkage_refused t e = ⊎_elim (λ h. at_entry result_head attribute_rows (λ at. refl) t h) (λ h. at_entry result_head (rows_of Whole linkage_words) (λ at. refl) t h) (either_table (entry attribute_rows) (entry (rows_of Whole linkage_words)) (word_of t) e)
 
 -- a `#` token isn't a comma
 hash_is_no_comma : (t : Tok) → is_hash t ≡ true → is_punct comma t ≡ false
@@ -240,9 +239,9 @@ hash_is_no_comma t e = by (is_punct comma t) refl
 pub call_law : (dst : Option Loc) → IsRead AtEnd (call dst)
 unfolding call argument
 call_law dst = then_other (λ t. is_some (in_table (attribute_word true) t)) (attributes_law true)
-    (λ _ front m. then_law (result_type_law 64) (λ ret front m. then_law callee_law (λ callee front m. then_law (punct_law open_paren) (λ _ front m. then_law (listed_law close_paren argument_law (λ at. refl) (λ t e. then_refuses (typ 63) _ t (typ_at_paren 63 t e))) (λ args front m.
+    (λ _ front m. then_law (result_type_law 63) (λ ret front m. then_law callee_law (λ callee front m. then_law (punct_law open_paren) (λ _ front m. then_law (listed_law close_paren argument_law (λ at. refl) (λ t e. then_refuses (typ 63) _ t (typ_at_paren 63 t e))) (λ args front m.
     optional_law is_hash _ (λ hash. finished_law _) (λ t e. finished_refuses _ t (hash_is_no_comma t e)))))))
-    (λ _ front m t e. then_refuses (result_type 64) _ t (result_refuses 64 t (linkage_refused true (λ at. refl) (λ at. refl) t e) (linkage_refused false (λ at. refl) (λ at. refl) t e)))
+    (λ _ front m t e. then_refuses (result_type 63) _ t (result_refuses 63 t (linkage_refused t e)))
   where
     callee_law : IsRead Anywhere (one callee_of)
     callee_law = one_law callee_of (record { kind = At; text = codes "@f"; at = 0 }) (record { 0 = 1 }) refl
@@ -290,8 +289,8 @@ open_still true e = absurd cc
 switching_law : IsRead AtEnd switching
 unfolding switching arm_of_switch
 switching_law = then_law width_law (λ w front m. then_law (operand_law (types.Int w)) (λ on front m. then_law comma_label_law (λ default front m. then_law (punct_law open_bracket) (λ _ front m.
-    then_other (λ t. not (is_punct close_bracket t)) (star_heads (λ t. not (is_punct close_bracket t)) (arm_of_switch_law w)
-    (λ t e. then_refuses (keyword (width_text w)) _ t (one_refuses (λ t. known (is_word (width_text w) t)) t (at_punct (λ t. known (is_word (width_text w) t)) close_bracket (λ at. refl) t (closing (is_punct close_bracket t) e)))) refl)
+    then_other (λ t. not (is_punct close_bracket t)) (seen_law (λ others. others) _ (star_heads (λ t. not (is_punct close_bracket t)) (arm_of_switch_law w)
+    (λ t e. then_refuses (keyword (width_text w)) _ t (one_refuses (λ t. known (is_word (width_text w) t)) t (at_punct (λ t. known (is_word (width_text w) t)) close_bracket (λ at. refl) t (closing (is_punct close_bracket t) e)))) refl))
     (λ cases front m. then_law (punct_law close_bracket) (λ _ front m. finished_law _))
     (λ cases front m t e. then_refuses (punct close_bracket) _ t (punct_refuses close_bracket t (open_still (is_punct close_bracket t) e)))))))
 

@@ -26,8 +26,8 @@ use Rattle.ir_grammar.specs.Parts.{Tok, Part, gives, one, all_of, ◌>>=◌, sta
 use Rattle.ir_grammar.specs.Tokens.{word_of, is_word, is_punct, known, keyword, punct, bang, local, local_of, comma, open_paren, close_paren, close_bracket, close_brace}
 use Rattle.ir_grammar.specs.Numbers.{decimal, count, count_of}
 use Rattle.ir_grammar.specs.Words.{entry, in_table, gep_flags, flag_rows, flag_of, with_flag, no_flags, flags}
-use Rattle.ir_grammar.specs.Types.{width_word, scalar_word, memory_word, rmw_type_word, width, scalar, memory_type, rmw_type, type_head, listed, type_rest, typ, result_head, result_rest, result_type}
-use Rattle.ir_grammar.specs.Values.{integer_of, integer, symbol, sym_of, constant_index, const_gep, value_head, value_rest, value}
+use Rattle.ir_grammar.specs.Types.{width_word, scalar_word, memory_word, rmw_type_word, width, scalar, memory_type, rmw_type, type_head, listed, type_rest, flat, flat_type, typ, result_head, result_rest, result_type}
+use Rattle.ir_grammar.specs.Values.{integer_of, integer, symbol, sym_of, constant_index, const_operands, const_gep, value_head, value_rest, value}
 use Rattle.ir_grammar.specs.Tails.{order, order_of, attribute_rest, attribute_word, attribute, attributes}
 use Rattle.ir_grammar.proofs.Reading.{IsRead, Anywhere, Fails, Refuses, gives_law, one_law, then_law, then_other, either_head, seen_law}
 use Rattle.ir_grammar.proofs.Rows.{star_heads, none_of_law}
@@ -120,32 +120,27 @@ pub listed_law : {A : Type 0} (close : ℕ) {p : Part A} → IsRead Anywhere p �
 listed_law {A} close {p} law none refuses =
     either_head (is_punct close)
     (then_law (punct_law close) (λ _ front m. gives_law []))
-    (then_law law (λ a front m. then_other (is_punct comma) (comma_row_law law) (λ others front m. then_law (punct_law close) (λ _ front m. gives_law (a ∷ others))) (λ others front m t e. closes close (λ _. gives (a ∷ others)) none t e)))
+    (then_law law (λ a front m. then_other (is_punct comma) (seen_law (λ others. a ∷ others) _ (comma_row_law law)) (λ all front m. then_law (punct_law close) (λ _ front m. gives_law all)) (λ all front m t e. closes close (λ _. gives all) none t e)))
     (λ t e. then_refuses (punct close) (λ _. gives []) t (punct_refuses close t e))
     refl
     (λ t e. then_refuses p _ t (refuses t e))
 
 -- ---- types
 
--- a type's first token isn't a closing brace or parenthesis
-no_brace : (b : Bool) (at : ℕ) → type_head b (punct_token close_brace at) ≡ None
-no_brace true at = refl
-no_brace false at = refl
-
-no_paren : (b : Bool) (at : ℕ) → type_head b (punct_token close_paren at) ≡ None
-no_paren true at = refl
-no_paren false at = refl
+no_flat : (o : Option TypeHead) → o ≡ None → option_and_then flat o ≡ None
+no_flat o e = ap (option_and_then flat) e
 
 pub typ_refuses : (n : ℕ) (t : Tok) → type_head true t ≡ None → type_head false t ≡ None → Refuses (typ n) t
 unfolding typ
-typ_refuses zero t e h = then_refuses (one (type_head false)) _ t (one_refuses (type_head false) t h)
+typ_refuses zero t e h = one_refuses flat_type t (no_flat (type_head false t) h)
 typ_refuses (suc n) t e h = then_refuses (one (type_head true)) _ t (one_refuses (type_head true) t e)
 
+-- a type doesn't begin with a closing brace or parenthesis
 pub typ_at_brace : (n : ℕ) (t : Tok) → is_punct close_brace t ≡ true → Refuses (typ n) t
-typ_at_brace n t e = typ_refuses n t (at_punct (type_head true) close_brace (no_brace true) t e) (at_punct (type_head false) close_brace (no_brace false) t e)
+typ_at_brace n t e = typ_refuses n t (at_punct (type_head true) close_brace (λ at. refl) t e) (at_punct (type_head false) close_brace (λ at. refl) t e)
 
 pub typ_at_paren : (n : ℕ) (t : Tok) → is_punct close_paren t ≡ true → Refuses (typ n) t
-typ_at_paren n t e = typ_refuses n t (at_punct (type_head true) close_paren (no_paren true) t e) (at_punct (type_head false) close_paren (no_paren false) t e)
+typ_at_paren n t e = typ_refuses n t (at_punct (type_head true) close_paren (λ at. refl) t e) (at_punct (type_head false) close_paren (λ at. refl) t e)
 
 array_count_law : IsRead Anywhere (count (2 ^ 32))
 unfolding decimal
@@ -158,22 +153,18 @@ type_rest_law inner law refuses (heads.Named id) = gives_law (types.Named id)
 type_rest_law inner law refuses heads.Array = then_law array_count_law (λ n front m. then_law (keyword_law (codes "x")) (λ _ front m. then_law law (λ e front m. then_law (punct_law close_bracket) (λ _ front m. gives_law (types.Array n e)))))
 type_rest_law inner law refuses heads.Struct = then_law (listed_law close_brace law (λ at. refl) refuses) (λ parts front m. gives_law (types.Struct parts))
 
-scalar_at_brace : (t : Tok) → is_punct close_brace t ≡ true → Refuses scalar t
-scalar_at_brace t e = one_refuses (in_table scalar_word) t (at_punct (in_table scalar_word) close_brace (λ at. refl) t e)
-
 pub typ_law : (n : ℕ) → IsRead Anywhere (typ n)
 unfolding typ
-typ_law zero = then_law (one_law (type_head false) (word_token (codes "ptr") 0) heads.Ptr refl) (λ h front m. type_rest_law scalar scalar_law scalar_at_brace h)
+typ_law zero = one_law flat_type (word_token (codes "ptr") 0) types.Ptr refl
 typ_law (suc n) = then_law (one_law (type_head true) (word_token (codes "ptr") 0) heads.Ptr refl) (λ h front m. type_rest_law (typ n) (typ_law n) (typ_at_brace n) h)
 
-result_rest_law : (inner : Part Ty) → ((h : TypeHead) → IsRead Anywhere (type_rest inner h)) → (h : ResultHead) → IsRead Anywhere (result_rest inner h)
-result_rest_law inner law results.Void = gives_law types.Void
-result_rest_law inner law (results.Some h) = law h
+result_rest_law : (inner : ℕ) (h : ResultHead) → IsRead Anywhere (result_rest inner h)
+result_rest_law inner results.Void = gives_law types.Void
+result_rest_law inner (results.Some h) = type_rest_law (typ inner) (typ_law inner) (typ_at_brace inner) h
 
-pub result_type_law : (n : ℕ) → IsRead Anywhere (result_type n)
+pub result_type_law : (inner : ℕ) → IsRead Anywhere (result_type inner)
 unfolding result_type
-result_type_law zero = then_law (one_law (result_head false) (word_token (codes "void") 0) results.Void refl) (λ h front m. result_rest_law scalar (type_rest_law scalar scalar_law scalar_at_brace) h)
-result_type_law (suc n) = then_law (one_law (result_head true) (word_token (codes "void") 0) results.Void refl) (λ h front m. result_rest_law (typ n) (type_rest_law (typ n) (typ_law n) (typ_at_brace n)) h)
+result_type_law inner = then_law (one_law result_head (word_token (codes "void") 0) results.Void refl) (λ h front m. result_rest_law inner h)
 
 -- ---- tokens that a test knows, any number of them
 
@@ -196,7 +187,8 @@ flags_law set = seen_law (fold with_flag no_flags) (all_of (flag_of set)) (rows_
 
 -- ---- values
 
-constant_index_law : IsRead Anywhere constant_index
+pub constant_index_law : IsRead Anywhere constant_index
+unfolding constant_index
 constant_index_law = then_law width_law (λ w front m. then_law (integer_law w) (λ n front m. gives_law (w, n)))
 
 -- a word of a table of flags isn't punctuation
@@ -207,15 +199,20 @@ flag_is_no_punct rows byte t e = at_entry (λ t. known (is_punct byte t)) rows (
     all_pass [] at = refl
     all_pass (row ∷ rows) at = all_pass rows at
 
+const_operands_law : IsRead Anywhere const_operands
+unfolding const_operands
+const_operands_law =
+    then_law (punct_law comma) (λ _ front m. then_law (keyword_law (codes "ptr")) (λ _ front m. then_law symbol_law (λ sym front m. then_law (punct_law comma) (λ _ front m. then_law constant_index_law (λ index front m.
+      then_other (is_punct comma) (seen_law (λ others. index ∷ others) _ (comma_row_law constant_index_law))
+        (λ all front m. then_law (punct_law close_paren) (λ _ front m. gives_law (sym, all)))
+        (λ all front m t e. closes close_paren _ (λ at. refl) t e))))))
+
 pub const_gep_law : (inner : ℕ) → IsRead Anywhere (const_gep inner)
 unfolding const_gep
 const_gep_law inner =
     then_other (λ t. is_some (flag_of Gep t)) (flags_law Gep)
-    (λ kept front m. then_law (punct_law open_paren) (λ _ front m. then_law (typ_law inner) (λ base front m. then_law (punct_law comma) (λ _ front m. then_law (keyword_law (codes "ptr")) (λ _ front m. then_law symbol_law (λ sym front m.
-    then_law (punct_law comma) (λ _ front m. then_law constant_index_law (λ index front m. then_other (is_punct comma) (comma_row_law constant_index_law)
-    (λ others front m. then_law (punct_law close_paren) (λ _ front m. gives_law _))
-    (λ others front m t e. closes close_paren _ (λ at. refl) t e)))))))))
-    (λ kept front m t e. then_refuses (punct open_paren) _ t (one_refuses (λ t. known (is_punct open_paren t)) t (flag_is_no_punct gep_flags open_paren t e)))
+      (λ kept front m. then_law (punct_law open_paren) (λ _ front m. then_law (typ_law inner) (λ base front m. then_law const_operands_law (λ x front m. gives_law _))))
+      (λ kept front m t e. then_refuses (punct open_paren) _ t (one_refuses (λ t. known (is_punct open_paren t)) t (flag_is_no_punct gep_flags open_paren t e)))
 
 value_rest_law : (inner : ℕ) (h : ValueHead) → IsRead Anywhere (value_rest inner h)
 value_rest_law inner (values.Reg loc) = gives_law _

@@ -12,7 +12,7 @@ use Rattle.ir_grammar.proofs.PartLaws.{keyword_law, punct_law, bang_law, punct_r
 
 -- ---- the plain end
 
-metadata_law : IsRead Anywhere metadata
+pub metadata_law : IsRead Anywhere metadata
 metadata_law = then_law (punct_law comma) (λ _ front m. then_law bang_law (λ _ front m. bang_law))
 
 pub tail_law : IsRead AtEnd tail

@@ -4,9 +4,8 @@
 -- Choices: one form for each instruction, in the order of the language's table. In an instruction that a line
 -- stands for, a name is told by the place where it begins in the line. Memory orders, alignments, attributes,
 -- words of linkage and metadata are read and dropped. At most 64 brackets stand open at once.
-use Rattle.std.specs.Prelude.{ℕ, ◌||◌, not, Bool, true, false, List, ◌∷◌, codes, Option, Some, None, if◌then◌else◌}
+use Rattle.std.specs.Prelude.{ℕ, nat_eq, ◌||◌, not, Bool, true, false, List, [], ◌∷◌, codes, Option, Some, None, if◌then◌else◌}
 use Rattle.std.specs.List.{starts_with}
-use Rattle.std.specs.Prelude.{nat_eq}
 use Rattle.ir_core.specs.declared.text.TokKind.TheVariants.{At}
 use Rattle.ir_core.specs.declared.types.Width.{Width}
 use Rattle.ir_core.specs.declared.types.Width.TheVariants.{W1}
@@ -24,7 +23,7 @@ use Rattle.ir_grammar.specs.declared.heads.ResultOpcode.{ResultOpcode}
 use Rattle.ir_grammar.specs.declared.heads.ResultOpcode.TheVariants as results
 use Rattle.ir_grammar.specs.declared.heads.PlainOpcode.{PlainOpcode}
 use Rattle.ir_grammar.specs.declared.heads.PlainOpcode.TheVariants as plain
-use Rattle.ir_grammar.specs.Parts.{Tok, Part, gives, one, ◌>>=◌, either, star, optional, heads as starts}
+use Rattle.ir_grammar.specs.Parts.{Tok, Part, gives, one, ◌>>=◌, either, more, optional, heads as starts}
 use Rattle.ir_grammar.specs.Tokens.{is_word, is_punct, is_hash, is_local, name_place, keyword, punct, local, equals, comma, open_paren, close_paren, open_bracket, close_bracket, open_brace, close_brace}
 use Rattle.ir_grammar.specs.Numbers.{count}
 use Rattle.ir_grammar.specs.Words.{in_table, pred_word, rmw_word, flags, result_opcode_word, plain_opcode_word}
@@ -88,8 +87,8 @@ conversion dst op =
 
 unfoldable pub element : Loc → Part Inst
 element dst =
-    flags Gep >>= λ _. typ 64 >>= λ base. comma_pointer >>= λ ptr. index >>= λ first. star goes_on index >>= λ others.
-    finished (insts.Gep dst base ptr (first ∷ others))
+    flags Gep >>= λ _. typ 64 >>= λ base. comma_pointer >>= λ ptr. index >>= λ first. more (first ∷ []) goes_on index >>= λ all.
+    finished (insts.Gep dst base ptr all)
 
 unfoldable pub allocation : Loc → Part Inst
 allocation dst = typ 64 >>= λ ty. aligned (insts.Alloca dst ty)
@@ -120,8 +119,8 @@ arm ty = punct open_bracket >>= λ _. value 62 ty >>= λ v. punct comma >>= λ _
 
 unfoldable pub phi : Loc → Part Inst
 phi dst =
-    scalar >>= λ ty. arm ty >>= λ first. star goes_on (punct comma >>= λ _. arm ty) >>= λ others.
-    finished (insts.Phi dst ty (first ∷ others))
+    scalar >>= λ ty. arm ty >>= λ first. more (first ∷ []) goes_on (punct comma >>= λ _. arm ty) >>= λ all.
+    finished (insts.Phi dst ty all)
 
 -- ---- calls, with a result and without
 
@@ -137,7 +136,7 @@ argument = typ 63 >>= λ ty. attributes false >>= λ _. value 62 ty >>= λ v. gi
 
 unfoldable pub call : Option Loc → Part Inst
 call dst =
-    attributes true >>= λ _. result_type 64 >>= λ ret. one callee_of >>= λ callee. punct open_paren >>= λ _. listed close_paren argument >>= λ args. optional is_hash >>= λ _.
+    attributes true >>= λ _. result_type 63 >>= λ ret. one callee_of >>= λ callee. punct open_paren >>= λ _. listed close_paren argument >>= λ args. optional is_hash >>= λ _.
     finished (insts.Call dst ret callee args)
 
 unfoldable pub marked_call : Option Loc → Part Inst
@@ -166,7 +165,7 @@ arm_of_switch w = keyword (width_text w) >>= λ _. integer w >>= λ n. comma_lab
 
 unfoldable pub switching : Part Inst
 switching =
-    width >>= λ w. operand (types.Int w) >>= λ on. comma_label >>= λ default. punct open_bracket >>= λ _. star (starts (λ t. not (is_punct close_bracket t))) (arm_of_switch w) >>= λ cases. punct close_bracket >>= λ _.
+    width >>= λ w. operand (types.Int w) >>= λ on. comma_label >>= λ default. punct open_bracket >>= λ _. more [] (starts (λ t. not (is_punct close_bracket t))) (arm_of_switch w) >>= λ cases. punct close_bracket >>= λ _.
     finished (insts.Switch (types.Int w) on default cases)
 
 unfoldable pub return : Part Inst

@@ -104,11 +104,6 @@ abbrev pub with_first : {A : Type 0} → A → Read (List A) → Read (List A)
 with_first a (Ok x) = Ok (a ∷ x.0, x.1)
 with_first a (Err n) = Err n
 
--- the values so far before those that are read
-abbrev pub with_front : {A : Type 0} → List A → Read (List A) → Read (List A)
-with_front front (Ok x) = Ok (front ++ x.0, x.1)
-with_front front (Err n) = Err n
-
 abbrev pub then_row : {A : Type 0} → (List Tok → Read (List A)) → Read A → Read (List A)
 then_row others (Ok x) = with_first x.0 (others x.1)
 then_row others (Err n) = Err n
@@ -136,6 +131,14 @@ read_seen f (Err n) = Err n
 -- the same tokens, for what the function makes of their value
 abbrev pub seen : {A B : Type 0} → (A → B) → Part A → Part B
 seen f p = record { means = Sees p.means f; reads = λ ts. read_seen f (p.reads ts) }
+
+-- values, and behind them those of a part any number of times
+abbrev pub more : {A : Type 0} → List A → (List Tok → Bool) → Part A → Part (List A)
+more values test p = seen (λ others. values ++ others) (star test p)
+
+-- a part any number of times that says nothing
+abbrev pub skipped : {A : Type 0} → (List Tok → Bool) → Part A → Part Bool
+skipped test p = seen (λ _. true) (star test p)
 
 -- the test on the first token; there is none at the end
 abbrev pub heads : (Tok → Bool) → List Tok → Bool

@@ -1,8 +1,8 @@
 -- What stands beside the operands of an instruction and says nothing here, and how its line ends.
-use Rattle.std.specs.Prelude.{ℕ, ◌^◌, ◌&&◌, not, Bool, true, false, List, [], ◌∷◌, codes, Option, is_some}
+use Rattle.std.specs.Prelude.{ℕ, ◌^◌, ◌&&◌, not, Bool, true, false, List, [], ◌∷◌, codes, drop, Option, is_some}
 use Rattle.ir_grammar.specs.declared.heads.AttributeHead.{AttributeHead}
 use Rattle.ir_grammar.specs.declared.heads.AttributeHead.TheVariants.{Whole, Align, Sized, Captures}
-use Rattle.ir_grammar.specs.Parts.{Tok, Part, gives, ends, one, ◌>>=◌, either, star, seen, heads as starts}
+use Rattle.ir_grammar.specs.Parts.{Tok, Part, gives, ends, one, ◌>>=◌, either, skipped, seen, heads as starts}
 use Rattle.ir_grammar.specs.Tokens.{is_punct, is_word_of, is_bang, known, keyword, punct, bang, comma, open_paren, close_paren}
 use Rattle.ir_grammar.specs.Numbers.{count}
 use Rattle.ir_grammar.specs.Words.{entry, in_table, orders, linkage_words, attribute_rows, rows_of, or_else}
@@ -36,21 +36,20 @@ attribute linkage = one (in_table (attribute_word linkage)) >>= attribute_rest
 
 -- any number of attributes; words of linkage among them where they may stand
 unfoldable pub attributes : Bool → Part Bool
-attributes linkage = seen (λ _. true) (star (starts (λ t. is_some (in_table (attribute_word linkage) t))) (attribute linkage))
+attributes linkage = skipped (starts (λ t. is_some (in_table (attribute_word linkage) t))) (attribute linkage)
 
 -- ---- the end of a line
 
 -- A comma, and behind it no `!` name: more of the instruction follows.
 abbrev pub goes_on : List Tok → Bool
-goes_on [] = false
-goes_on (t ∷ ts) = is_punct comma t && not (starts is_bang ts)
+goes_on ts = starts (is_punct comma) ts && not (starts is_bang (drop 1 ts))
 
 -- metadata at the end of a line: `, !dbg !7`, any number of times
 abbrev pub metadata : Part Bool
 metadata = punct comma >>= λ _. bang >>= λ _. bang
 
 unfoldable pub tail : Part Bool
-tail = seen (λ _. true) (star (starts (is_punct comma)) metadata) >>= λ _. ends true
+tail = skipped (starts (is_punct comma)) metadata >>= λ _. ends true
 
 -- `, align N` or none, and then the end
 unfoldable pub align_tail : Part Bool

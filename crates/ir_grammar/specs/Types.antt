@@ -2,7 +2,7 @@
 --
 -- Choices: a name stands for the place where it begins; what its number is, is said where names are numbered.
 -- A part that may hold brackets is told how many may still be opened in it. `void` is a type of results alone.
-use Rattle.std.specs.Prelude.{ℕ, zero, suc, ◌^◌, Bool, true, false, List, [], ◌∷◌, codes, Option, Some, None, option_map, if◌then◌else◌}
+use Rattle.std.specs.Prelude.{ℕ, zero, suc, ◌^◌, Bool, true, false, List, [], ◌∷◌, codes, Option, Some, None, option_map, option_and_then, if◌then◌else◌}
 use Rattle.std.specs.Str.{bytes_eq}
 use Rattle.ir_core.specs.declared.text.TokKind.TheVariants.{Word, Local, Punct}
 use Rattle.ir_core.specs.declared.types.Width.{Width}
@@ -15,7 +15,7 @@ use Rattle.ir_grammar.specs.declared.heads.TypeHead.{TypeHead}
 use Rattle.ir_grammar.specs.declared.heads.TypeHead.TheVariants as heads
 use Rattle.ir_grammar.specs.declared.heads.ResultHead.{ResultHead}
 use Rattle.ir_grammar.specs.declared.heads.ResultHead.TheVariants as results
-use Rattle.ir_grammar.specs.Parts.{Tok, Part, gives, one, ◌>>=◌, either, star, heads as starts}
+use Rattle.ir_grammar.specs.Parts.{Tok, Part, gives, one, ◌>>=◌, either, more, heads as starts}
 use Rattle.ir_grammar.specs.Tokens.{is_punct, name_place, keyword, punct, comma, close_bracket, close_brace}
 use Rattle.ir_grammar.specs.Numbers.{count}
 use Rattle.ir_grammar.specs.Words.{entry, in_table}
@@ -76,9 +76,13 @@ bracket may_open text = if may_open then entry ((codes "[", heads.Array) ∷ (co
 abbrev pub type_head : Bool → Tok → Option TypeHead
 type_head may_open t = elim t.kind as (λ _. Option TypeHead) [ Word ↦ type_word t.text | Local ↦ Some (heads.Named (record { 0 = name_place t })) | Punct ↦ bracket may_open t.text | _ ↦ None ]
 
+-- values, and behind them those of further parts behind commas
+abbrev pub more_listed : {A : Type 0} → List A → Part A → Part (List A)
+more_listed values part = more values (starts (is_punct comma)) (punct comma >>= λ _. part)
+
 -- a part in brackets, any number of times with commas between
 abbrev pub listed : {A : Type 0} → ℕ → Part A → Part (List A)
-listed close part = either (starts (is_punct close)) (punct close >>= λ _. gives []) (part >>= λ a. star (starts (is_punct comma)) (punct comma >>= λ _. part) >>= λ others. punct close >>= λ _. gives (a ∷ others))
+listed close part = either (starts (is_punct close)) (punct close >>= λ _. gives []) (part >>= λ a. more_listed (a ∷ []) part >>= λ all. punct close >>= λ _. gives all)
 
 -- the rest of a type behind its first token, by the type of what stands in its brackets
 abbrev pub type_rest : Part Ty → TypeHead → Part Ty
@@ -88,19 +92,29 @@ type_rest inner (heads.Named id) = gives (types.Named id)
 type_rest inner heads.Array = count (2 ^ 32) >>= λ n. keyword (codes "x") >>= λ _. inner >>= λ element. punct close_bracket >>= λ _. gives (types.Array n element)
 type_rest inner heads.Struct = listed close_brace inner >>= λ parts. gives (types.Struct parts)
 
+-- a type without brackets, by its one token
+abbrev pub flat : TypeHead → Option Ty
+flat (heads.Int w) = Some (types.Int w)
+flat heads.Ptr = Some types.Ptr
+flat (heads.Named id) = Some (types.Named id)
+flat heads.Array = None
+flat heads.Struct = None
+
+abbrev pub flat_type : Tok → Option Ty
+flat_type t = option_and_then flat (type_head false t)
+
 -- a type, with so many brackets at most that stand open in it at once
 unfoldable pub typ : ℕ → Part Ty
-typ zero = one (type_head false) >>= type_rest scalar
+typ zero = one flat_type
 typ (suc n) = one (type_head true) >>= type_rest (typ n)
 
--- the type of a result
-abbrev pub result_head : Bool → Tok → Option ResultHead
-result_head may_open t = elim t.kind as (λ _. Option ResultHead) [ Word ↦ if bytes_eq t.text (codes "void") then Some results.Void else option_map results.Some (type_word t.text) | _ ↦ option_map results.Some (type_head may_open t) ]
+-- the type of a result, with so many brackets at most that stand open inside its first one
+abbrev pub result_head : Tok → Option ResultHead
+result_head t = elim t.kind as (λ _. Option ResultHead) [ Word ↦ if bytes_eq t.text (codes "void") then Some results.Void else option_map results.Some (type_word t.text) | _ ↦ option_map results.Some (type_head true t) ]
 
-abbrev pub result_rest : Part Ty → ResultHead → Part Ty
+abbrev pub result_rest : ℕ → ResultHead → Part Ty
 result_rest inner results.Void = gives types.Void
-result_rest inner (results.Some head) = type_rest inner head
+result_rest inner (results.Some head) = type_rest (typ inner) head
 
 unfoldable pub result_type : ℕ → Part Ty
-result_type zero = one (result_head false) >>= result_rest scalar
-result_type (suc n) = one (result_head true) >>= result_rest (typ n)
+result_type inner = one result_head >>= result_rest inner

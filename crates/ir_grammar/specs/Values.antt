@@ -16,11 +16,11 @@ use Rattle.ir_core.specs.declared.values.ConstGep.{ConstGep}
 use Rattle.ir_grammar.specs.declared.heads.FlagSet.TheVariants.{Gep}
 use Rattle.ir_grammar.specs.declared.heads.ValueHead.{ValueHead}
 use Rattle.ir_grammar.specs.declared.heads.ValueHead.TheVariants as heads
-use Rattle.ir_grammar.specs.Parts.{Tok, Part, gives, one, ◌>>=◌, star, heads as starts}
+use Rattle.ir_grammar.specs.Parts.{Tok, Part, gives, one, ◌>>=◌, more, heads as starts}
 use Rattle.ir_grammar.specs.Tokens.{is_punct, name_place, keyword, punct, comma, open_paren, close_paren}
 use Rattle.ir_grammar.specs.Numbers.{bits, word_written}
 use Rattle.ir_grammar.specs.Words.{entry, flags}
-use Rattle.ir_grammar.specs.Types.{width, typ}
+use Rattle.ir_grammar.specs.Types.{width, typ, more_listed}
 
 -- ---- constants of one token
 
@@ -45,15 +45,19 @@ symbol = one sym_of
 -- ---- constant getelementptr (LLVM Language Reference, 'Constant Expressions')
 
 -- an integer type and a number of it
-abbrev pub constant_index : Part (Width × ℕ)
+unfoldable pub constant_index : Part (Width × ℕ)
 constant_index = width >>= λ w. integer w >>= λ n. gives (w, n)
+
+-- `, ptr @g , iN K ..`, up to the closing parenthesis, with one index or more
+unfoldable pub const_operands : Part (Sym × List (Width × ℕ))
+const_operands =
+    punct comma >>= λ _. keyword (codes "ptr") >>= λ _. symbol >>= λ sym. punct comma >>= λ _. constant_index >>= λ index. more_listed (index ∷ []) constant_index >>= λ all. punct close_paren >>= λ _. gives (sym, all)
 
 -- what stands behind the word, with so many brackets at most inside the parentheses
 unfoldable pub const_gep : ℕ → Part ConstGep
 const_gep inner =
-    flags Gep >>= λ _. punct open_paren >>= λ _. typ inner >>= λ base. punct comma >>= λ _. keyword (codes "ptr") >>= λ _. symbol >>= λ sym.
-    punct comma >>= λ _. constant_index >>= λ index. star (starts (is_punct comma)) (punct comma >>= λ _. constant_index) >>= λ others. punct close_paren >>= λ _.
-    gives (record { base = base; sym = sym; index = index ∷ others })
+    flags Gep >>= λ _. punct open_paren >>= λ _. typ inner >>= λ base. const_operands >>= λ x.
+    gives (record { base = base; sym = x.0; index = x.1 })
 
 -- ---- values
 

@@ -1,0 +1,229 @@
+//! The tokens of a line that are left, and single tokens.
+ghost use Rattle.std.specs.Prelude.{◌≡◌, Bool, true, Ok, length, drop};
+ghost use Rattle.std.specs.Option.{option_map, option_and_then};
+ghost use Rattle.ir_grammar.specs.Tokens.{word_of, is_punct, is_word, is_bang, is_hash, is_local, punct, bang, keyword, local};
+ghost use Rattle.ir_parse_parts.specs.declared.stops.Stop.TheVariants.{Unfit};
+ghost use Rattle.ir_grammar.specs.Parts.{first, taken, heads, optional, ends};
+ghost use Rattle.ir_parse_parts.specs.Reads.{Gave, Passed};
+ghost use Rattle.ir_parse_parts.specs.Views.{tok_view};
+
+use crate::{Stop, Tok};
+use ir_core::{Loc, TokKind, Token};
+use std::alloc::Global;
+use std::marker::Model;
+
+/// The tokens of a line that are left.
+#[derive(Drop)]
+pub struct Reader<'a> {
+    alloc: Global,
+    line: &'a [u8],
+    tokens: &'a [Token],
+}
+
+impl<'a> Model for Reader<'a> {
+    ghost use Rattle.std.specs.Prelude.{List};
+    ghost use Rattle.ir_grammar.specs.Parts.{Tok};
+    ghost use Rattle.ir_parse_parts.specs.Views.{tokens_of, AreWithin};
+
+    ghost Value = { List Tok };
+
+    ghost view = { λ r. tokens_of r.line.now r.tokens.now };
+
+    ghost invariant = { λ r. AreWithin r.line.now r.tokens.now };
+}
+
+impl<'a> Reader<'a> {
+    /// The next token.
+    pub fn peek(&self) -> Option<Tok<'a>>
+        ensures { option_map tok_view result ≡ first self.now }
+    {
+        let token = self.tokens.first()?;
+        Some(Tok {
+            kind: token.kind,
+            text: &self.line[token.start as usize..token.end as usize],
+            at: token.start,
+        })
+    }
+
+    /// Goes past the next token, where there is one.
+    pub fn skip(&mut self)
+        ensures { self.new ≡ drop 1 self.old }
+    {
+        if let [_, rest @ ..] = self.tokens {
+            self.tokens = rest;
+        }
+    }
+
+    /// The next token can't stand there.
+    pub fn unfit(&self) -> Stop
+        ensures { result ≡ Unfit (length self.now) }
+    {
+        Stop::Unfit(self.tokens.len())
+    }
+
+    /// The next token as what was found of it, where it was found to be something.
+    pub fn take<T>(&mut self, found: Option<T>) -> Result<T, Stop>
+        ensures { Gave result self.new (taken found self.old) }
+    {
+        match found {
+            Some(value) => {
+                self.skip();
+                Ok(value)
+            }
+            None => Err(self.unfit()),
+        }
+    }
+
+    /// Whether the next token is this punctuation.
+    pub fn at_punct(&self, byte: u8) -> bool
+        ensures { result ≡ heads (is_punct byte) self.now }
+    {
+        match self.peek() {
+            Some(tok) => tok.is_punct(byte),
+            None => false,
+        }
+    }
+
+    /// Whether the next token is this word.
+    pub fn at_word(&self, word: &[u8]) -> bool
+        ensures { result ≡ heads (is_word word.now) self.now }
+    {
+        match self.peek() {
+            Some(tok) => tok.is_word(word),
+            None => false,
+        }
+    }
+
+    /// Whether the next token is a `%` name.
+    pub fn at_local(&self) -> bool
+        ensures { result ≡ heads is_local self.now }
+    {
+        matches!(
+            self.peek(),
+            Some(Tok {
+                kind: TokKind::Local,
+                ..
+            })
+        )
+    }
+
+    /// Whether the token behind the next one is a `!` name.
+    pub(crate) fn bang_behind(&self) -> bool
+        ensures { result ≡ heads is_bang (drop 1 self.now) }
+    {
+        match self.tokens {
+            [_, second, ..] => matches!(second.kind, TokKind::Bang),
+            _ => false,
+        }
+    }
+
+    /// A `!` name.
+    pub(crate) fn bang(&mut self) -> Result<(), Stop>
+        ensures { Passed result self.new (bang.reads self.old) }
+    {
+        match self.peek() {
+            Some(
+                Tok {
+                    kind: TokKind::Bang,
+                    ..
+                },
+            ) => {
+                self.skip();
+                Ok(())
+            }
+            _ => Err(self.unfit()),
+        }
+    }
+
+    /// The end of the line.
+    pub(crate) fn end(&self) -> Result<(), Stop>
+        ensures { Passed result self.now ((ends true).reads self.now) }
+    {
+        match self.peek() {
+            None => Ok(()),
+            Some(_) => Err(self.unfit()),
+        }
+    }
+
+    /// Goes past a `#` token, where it is next, and tells whether it was.
+    pub fn optional_hash(&mut self) -> bool
+        ensures { (optional is_hash).reads self.old ≡ Ok (result, self.new) }
+    {
+        let found = matches!(
+            self.peek(),
+            Some(Tok {
+                kind: TokKind::Hash,
+                ..
+            })
+        );
+        if found {
+            self.skip();
+        }
+        found
+    }
+
+    /// The punctuation.
+    pub fn punct(&mut self, byte: u8) -> Result<(), Stop>
+        ensures { Passed result self.new ((punct byte).reads self.old) }
+    {
+        if self.at_punct(byte) {
+            self.skip();
+            return Ok(());
+        }
+        Err(self.unfit())
+    }
+
+    /// The word.
+    pub fn keyword(&mut self, word: &[u8]) -> Result<(), Stop>
+        ensures { Passed result self.new ((keyword word.now).reads self.old) }
+    {
+        if self.at_word(word) {
+            self.skip();
+            return Ok(());
+        }
+        Err(self.unfit())
+    }
+
+    /// Goes past the word, where it is next, and tells whether it was.
+    pub fn optional_word(&mut self, word: &[u8]) -> bool
+        ensures { (optional (is_word word.now)).reads self.old ≡ Ok (result, self.new) }
+    {
+        let found = self.at_word(word);
+        if found {
+            self.skip();
+        }
+        found
+    }
+
+    /// A register or a label: the place of its name.
+    pub fn local(&mut self) -> Result<Loc, Stop>
+        ensures { Gave result self.new (local.reads self.old) }
+    {
+        let found = match self.peek() {
+            Some(tok) => tok.local(),
+            None => None,
+        };
+        self.take(found)
+    }
+
+    /// The allocator of what is read.
+    pub fn alloc(&self) -> Global {
+        self.alloc
+    }
+
+    /// The text of the next token, where it is a word.
+    pub fn word(&self) -> Option<&'a [u8]>
+        ensures { option_map (λ word. word.now) result ≡ option_and_then word_of (first self.now) }
+    {
+        match self.peek() {
+            Some(
+                Tok {
+                    kind: TokKind::Word,
+                    text,
+                    ..
+                },
+            ) => Some(text),
+            _ => None,
+        }
+    }
+}
