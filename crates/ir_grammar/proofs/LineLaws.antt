@@ -1,5 +1,5 @@
 -- Each line form is read as it means.
-use Rattle.std.proofs.Common.{◌∷◌, ℕ, zero, suc, ◌≡◌, Bool, true, false, not, List, Option, Some, None, refl, sym, ap, ◌∙◌, ◌⊎◌, inl, inr, ⊎_elim}
+use Rattle.std.proofs.Common.{[], ◌∷◌, Err, ℕ, zero, suc, ◌≡◌, Bool, true, false, not, List, Option, Some, None, refl, sym, ap, ◌∙◌, ◌⊎◌, inl, inr, ⊎_elim}
 use Rattle.std.specs.Prelude.{codes, is_some, is_none, option_and_then}
 use Rattle.std.specs.List.{list_all}
 use Rattle.ir_core.specs.declared.text.TokKind.{TokKind}
@@ -31,7 +31,7 @@ use Rattle.ir_grammar.specs.Words.{entry, in_table, pred_word, rmw_word, binop_f
 use Rattle.ir_grammar.specs.Types.{width_word, memory_word, width, memory_type, width_text, scalar_text, type_head, typ, result_head, result_type}
 use Rattle.ir_grammar.specs.Values.{value_head, value_rest, value}
 use Rattle.ir_grammar.specs.Tails.{goes_on, attribute_word, attributes}
-use Rattle.ir_grammar.specs.Lines.{operand, pointer, comma_pointer, comma_operand, comma_same, label, comma_label, index, binary, comparison, selection, conversion, element, allocation, loading, updating, exchange, extraction, arm, phi, callee_of, argument, call, marked_call, storing, fencing, branch, arm_of_switch, switching, return, line_with, line_without, result_line, instruction}
+use Rattle.ir_grammar.specs.Lines.{operand, pointer, comma_pointer, comma_operand, comma_same, label, comma_label, index, binary, comparison, selection, conversion, element, allocation, loading, updating, exchange, extraction, arm, phi, callee_of, callee, argument, call_operands, call, marked_call, storing, fencing, branch, arm_of_switch, switch_cases, switching, returning, line_with, line_without, result_line, instruction}
 use Rattle.ir_grammar.proofs.Reading.{IsRead, Anywhere, AtEnd, Fails, Refuses, gives_law, one_law, then_law, then_other, either_head, optional_law, seen_law}
 use Rattle.ir_grammar.proofs.Rows.{star_heads}
 use Rattle.ir_grammar.proofs.Refusals.{word_token, at_word, at_punct, at_bang, at_hash, at_local, at_entry, not_known, one_refuses, then_refuses}
@@ -70,7 +70,7 @@ comma_label_law = then_law (punct_law comma) (λ _ front m. label_law)
 index_rest_law : IsRead {A = Width × Val} Anywhere (width >>= λ w. operand (types.Int w) >>= λ v. gives (w, v))
 index_rest_law = then_law width_law (λ w front m. then_law (operand_law (types.Int w)) (λ v front m. gives_law (w, v)))
 
-index_law : IsRead Anywhere index
+pub index_law : IsRead Anywhere index
 unfolding index
 index_law = then_law (punct_law comma) (λ _ front m. index_rest_law)
 
@@ -90,6 +90,14 @@ after_flags set k laws refuses = then_other (λ t. is_some (flag_of set t)) (fla
 -- a type doesn't begin with a word of a table that has no type's word
 typ_at_entry : {A : Type 0} (rows : List (List ℕ × A)) (n : ℕ) → ((at : ℕ) → list_all (λ row. is_none (type_head true (word_token row.0 at))) rows ≡ true) → ((at : ℕ) → list_all (λ row. is_none (type_head false (word_token row.0 at))) rows ≡ true) → (t : Tok) → is_some (in_table (entry rows) t) ≡ true → Refuses (typ n) t
 typ_at_entry rows n some none t e = typ_refuses n t (at_entry (type_head true) rows some t e) (at_entry (type_head false) rows none t e)
+
+pub arm_law : (ty : Ty) → IsRead Anywhere (arm ty)
+unfolding arm
+arm_law ty = then_law (punct_law open_bracket) (λ _ front m. then_law (value_law 62 ty) (λ v front m. then_law (punct_law comma) (λ _ front m. then_law local_law (λ at front m. then_law (punct_law close_bracket) (λ _ front m. gives_law (v, at))))))
+
+arms_law : (ty : Ty) → IsRead (Fails goes_on) (star goes_on (punct comma >>= λ _. arm ty))
+unfolding arm
+arms_law ty = items_law (arm ty) (arm_law ty) (λ t e. then_refuses (punct open_bracket) _ t (one_refuses (λ t. known (is_punct open_bracket t)) t (at_bang (λ t. known (is_punct open_bracket t)) (λ text at. refl) t e))) refl
 
 module _ (dst : Loc) where
   binary_law : (op : BinOp) → IsRead AtEnd (binary dst op)
@@ -177,14 +185,6 @@ module _ (dst : Loc) where
   unfolding extraction
   extraction_law = then_law (punct_law open_brace) (λ _ front m. then_law (typ_law 63) (λ elem front m. then_law (punct_law comma) (λ _ front m. then_law (keyword_law (codes "i1")) (λ _ front m. then_law (punct_law close_brace) (λ _ front m. then_law local_law (λ pair front m. then_law (punct_law comma) (λ _ front m. then_law two_law (λ n front m. finished_law _))))))))
 
-  arm_law : (ty : Ty) → IsRead Anywhere (arm ty)
-  unfolding arm
-  arm_law ty = then_law (punct_law open_bracket) (λ _ front m. then_law (value_law 62 ty) (λ v front m. then_law (punct_law comma) (λ _ front m. then_law local_law (λ at front m. then_law (punct_law close_bracket) (λ _ front m. gives_law (v, at))))))
-
-  arms_law : (ty : Ty) → IsRead (Fails goes_on) (star goes_on (punct comma >>= λ _. arm ty))
-  unfolding arm
-  arms_law ty = items_law (arm ty) (arm_law ty) (λ t e. then_refuses (punct open_bracket) _ t (one_refuses (λ t. known (is_punct open_bracket t)) t (at_bang (λ t. known (is_punct open_bracket t)) (λ text at. refl) t e))) refl
-
   phi_law : IsRead AtEnd (phi dst)
   unfolding phi
   phi_law = then_law scalar_law (λ ty front m. then_law (arm_law ty) (λ first front m. then_over (seen_law (λ others. first ∷ others) _ (arms_law ty)) (λ others. finished_law _) (λ others. finished_closes _)))
@@ -206,7 +206,7 @@ value_refuses : (inner : ℕ) (ty : Ty) (t : Tok) → value_head ty t ≡ None �
 unfolding value
 value_refuses inner ty t e = then_refuses (one (value_head ty)) (value_rest inner) t (one_refuses (value_head ty) t e)
 
-argument_law : IsRead Anywhere argument
+pub argument_law : IsRead Anywhere argument
 unfolding argument
 argument_law = then_law (typ_law 63) (λ ty front m. then_other (λ t. is_some (in_table (attribute_word false) t)) (attributes_law false)
     (λ _ front m. then_law (value_law 62 ty) (λ v front m. gives_law (ty, v)))
@@ -236,15 +236,22 @@ hash_is_no_comma t e = by (is_punct comma t) refl
     by false h = refl
     by true h = let k : known true ≡ None = sym (ap known h) ∙ at_hash (λ t. known (is_punct comma t)) (λ text at. refl) t e in absurd cc
 
-pub call_law : (dst : Option Loc) → IsRead AtEnd (call dst)
-unfolding call argument
+callee_law : IsRead Anywhere callee
+callee_law = one_law callee_of (record { kind = At; text = codes "@f"; at = 0 }) (record { 0 = 1 }) refl
+
+argument_at_paren : (t : Tok) → is_punct close_paren t ≡ true → Refuses argument t
+unfolding argument
+argument_at_paren t e = then_refuses (typ 63) _ t (typ_at_paren 63 t e)
+
+call_operands_law : IsRead Anywhere call_operands
+unfolding call_operands
+call_operands_law = then_law callee_law (λ sym front m. then_law (punct_law open_paren) (λ _ front m. then_law (listed_law close_paren argument_law (λ at. refl) argument_at_paren) (λ args front m. gives_law (sym, args))))
+
+call_law : (dst : Option Loc) → IsRead AtEnd (call dst)
+unfolding call
 call_law dst = then_other (λ t. is_some (in_table (attribute_word true) t)) (attributes_law true)
-    (λ _ front m. then_law (result_type_law 63) (λ ret front m. then_law callee_law (λ callee front m. then_law (punct_law open_paren) (λ _ front m. then_law (listed_law close_paren argument_law (λ at. refl) (λ t e. then_refuses (typ 63) _ t (typ_at_paren 63 t e))) (λ args front m.
-    optional_law is_hash _ (λ hash. finished_law _) (λ t e. finished_refuses _ t (hash_is_no_comma t e)))))))
+    (λ _ front m. then_law (result_type_law 63) (λ ret front m. then_law call_operands_law (λ x front m. optional_law is_hash _ (λ hash. finished_law _) (λ t e. finished_refuses _ t (hash_is_no_comma t e)))))
     (λ _ front m t e. then_refuses (result_type 63) _ t (result_refuses 63 t (linkage_refused t e)))
-  where
-    callee_law : IsRead Anywhere (one callee_of)
-    callee_law = one_law callee_of (record { kind = At; text = codes "@f"; at = 0 }) (record { 0 = 1 }) refl
 
 marked_call_law : (dst : Option Loc) → IsRead AtEnd (marked_call dst)
 unfolding marked_call
@@ -274,7 +281,7 @@ branch_law = either_head (is_word (codes "label"))
     refl
     (λ t e. then_refuses (keyword (codes "i1")) _ t (one_refuses (λ t. known (is_word (codes "i1") t)) t (at_word (λ t. known (is_word (codes "i1") t)) (codes "label") (λ at. refl) t e)))
 
-arm_of_switch_law : (w : Width) → IsRead Anywhere (arm_of_switch w)
+pub arm_of_switch_law : (w : Width) → IsRead Anywhere (arm_of_switch w)
 unfolding arm_of_switch
 arm_of_switch_law w = then_law (keyword_law (width_text w)) (λ _ front m. then_law (integer_law w) (λ n front m. then_law comma_label_law (λ to front m. gives_law (n, to))))
 
@@ -286,17 +293,28 @@ open_still : (b : Bool) → not b ≡ true → b ≡ false
 open_still false e = refl
 open_still true e = absurd cc
 
-switching_law : IsRead AtEnd switching
-unfolding switching arm_of_switch
-switching_law = then_law width_law (λ w front m. then_law (operand_law (types.Int w)) (λ on front m. then_law comma_label_law (λ default front m. then_law (punct_law open_bracket) (λ _ front m.
-    then_other (λ t. not (is_punct close_bracket t)) (seen_law (λ others. others) _ (star_heads (λ t. not (is_punct close_bracket t)) (arm_of_switch_law w)
-    (λ t e. then_refuses (keyword (width_text w)) _ t (one_refuses (λ t. known (is_word (width_text w) t)) t (at_punct (λ t. known (is_word (width_text w) t)) close_bracket (λ at. refl) t (closing (is_punct close_bracket t) e)))) refl))
-    (λ cases front m. then_law (punct_law close_bracket) (λ _ front m. finished_law _))
-    (λ cases front m t e. then_refuses (punct close_bracket) _ t (punct_refuses close_bracket t (open_still (is_punct close_bracket t) e)))))))
+arm_refuses : (w : Width) (t : Tok) → not (is_punct close_bracket t) ≡ false → Refuses (arm_of_switch w) t
+unfolding arm_of_switch
+arm_refuses w t e = then_refuses (keyword (width_text w)) _ t (one_refuses (λ t. known (is_word (width_text w) t)) t (at_punct (λ t. known (is_word (width_text w) t)) close_bracket (λ at. refl) t (closing (is_punct close_bracket t) e)))
 
-return_law : IsRead AtEnd return
-unfolding return
-return_law = either_head (is_word (codes "void"))
+pub arm_of_switch_empty : (w : Width) → (arm_of_switch w).reads [] ≡ Err 0
+unfolding arm_of_switch
+arm_of_switch_empty w = refl
+
+switch_cases_law : (w : Width) → IsRead Anywhere (switch_cases w)
+unfolding switch_cases
+switch_cases_law w = then_law (punct_law open_bracket) (λ _ front m.
+    then_other (λ t. not (is_punct close_bracket t)) (seen_law (λ others. others) _ (star_heads (λ t. not (is_punct close_bracket t)) (arm_of_switch_law w) (arm_refuses w) (arm_of_switch_empty w)))
+      (λ cases front m. then_law (punct_law close_bracket) (λ _ front m. gives_law cases))
+      (λ cases front m t e. then_refuses (punct close_bracket) _ t (punct_refuses close_bracket t (open_still (is_punct close_bracket t) e))))
+
+switching_law : IsRead AtEnd switching
+unfolding switching
+switching_law = then_law width_law (λ w front m. then_law (operand_law (types.Int w)) (λ on front m. then_law comma_label_law (λ default front m. then_law (switch_cases_law w) (λ cases front m. finished_law _))))
+
+returning_law : IsRead AtEnd returning
+unfolding returning
+returning_law = either_head (is_word (codes "void"))
     (then_law (keyword_law (codes "void")) (λ _ front m. finished_law _))
     (then_law (typ_law 64) (λ ty front m. then_law (operand_law ty) (λ v front m. finished_law _)))
     (λ t e. then_refuses (keyword (codes "void")) _ t (keyword_refuses (codes "void") t e))
@@ -327,7 +345,7 @@ line_without_law plain.Call = call_law None
 line_without_law plain.MarkedCall = marked_call_law None
 line_without_law plain.Br = branch_law
 line_without_law plain.Switch = switching_law
-line_without_law plain.Ret = return_law
+line_without_law plain.Ret = returning_law
 line_without_law plain.Unreachable = finished_law _
 
 result_line_law : IsRead AtEnd result_line

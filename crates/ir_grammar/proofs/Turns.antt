@@ -1,13 +1,17 @@
 -- Loops that read a part any number of times: what a turn makes of the values so far and the tokens left.
-use Rattle.std.proofs.Common.{drop, ℕ, ◌≡◌, Bool, true, false, List, [], ◌∷◌, ◌++◌, length, Option, Some, None, Ok, Err, refl, sym, ap, ◌∙◌, append_assoc, length-append, ◌<◌, arith}
+use Rattle.std.proofs.Common.{drop, not, ℕ, ◌≡◌, Bool, true, false, List, [], ◌∷◌, ◌++◌, length, Option, Some, None, Ok, Err, refl, sym, ap, ◌∙◌, append_assoc, length-append, ◌<◌, arith}
 use Rattle.std.specs.Prelude.{is_some, fold, option_and_then}
 use Rattle.ir_grammar.specs.Parts.{Tok, Read, Part, first, taken, with_first, read_seen, more, then_row, read_then, star, skipped, one, all_of, ◌>>=◌, heads}
-use Rattle.ir_grammar.specs.Tokens.{is_punct, punct, comma}
+use Rattle.ir_core.specs.declared.types.Width.{Width}
+use Rattle.ir_core.specs.declared.types.Ty.{Ty}
+use Rattle.ir_grammar.specs.Tokens.{is_punct, punct, comma, close_bracket}
+use Rattle.ir_grammar.specs.Lines.{index, arm, arm_of_switch}
 use Rattle.ir_grammar.specs.Words.{in_table}
 use Rattle.ir_grammar.specs.Tails.{goes_on, metadata, attribute_word, attribute}
 use Rattle.ir_grammar.proofs.Reading.{IsRead, Anywhere, Took, then_law, not_read, read_ok}
 use Rattle.ir_grammar.proofs.PartLaws.{punct_law, attribute_law}
 use Rattle.ir_grammar.proofs.TailLaws.{metadata_law}
+use Rattle.ir_grammar.proofs.LineLaws.{index_law, arm_law, arm_of_switch_law, arm_of_switch_empty}
 use Rattle.ir_grammar.proofs.Rows.{row_step}
 
 -- what a loop over a part needs of its test
@@ -131,3 +135,15 @@ module _ {A : Type 0} (pick : Tok → Option A) where
   -- the rest behind it
   pub rest_taken : {B : Type 0} (k : A → Part B) (ts : List Tok) (a : A) (r : Read B) → option_and_then pick (first ts) ≡ Some a → (k a).reads (drop 1 ts) ≡ r → (one pick >>= k).reads ts ≡ r
   rest_taken k ts a r e h = ap (λ o. read_then (taken o ts) k) e ∙ h
+
+-- ---- the rows of lines
+
+pub index_turns : Turns goes_on index
+unfolding index
+index_turns = turns_of goes_on index_law refl refl
+
+pub arm_turns : (ty : Ty) → Turns goes_on (punct comma >>= λ _. arm ty)
+arm_turns ty = item_turns (arm_law ty)
+
+pub case_turns : (w : Width) → Turns (heads (λ t. not (is_punct close_bracket t))) (arm_of_switch w)
+case_turns w = turns_of (heads (λ t. not (is_punct close_bracket t))) (arm_of_switch_law w) (arm_of_switch_empty w) refl

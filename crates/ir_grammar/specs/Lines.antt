@@ -63,6 +63,10 @@ comma_label = punct comma >>= λ _. label
 unfoldable pub index : Part (Width × Val)
 index = punct comma >>= λ _. width >>= λ w. operand (types.Int w) >>= λ v. gives (w, v)
 
+-- indices, and behind them those that follow
+abbrev pub more_indices : List (Width × Val) → Part (List (Width × Val))
+more_indices indices = more indices goes_on index
+
 -- ---- lines with a result
 
 unfoldable pub binary : Loc → BinOp → Part Inst
@@ -87,7 +91,7 @@ conversion dst op =
 
 unfoldable pub element : Loc → Part Inst
 element dst =
-    flags Gep >>= λ _. typ 64 >>= λ base. comma_pointer >>= λ ptr. index >>= λ first. more (first ∷ []) goes_on index >>= λ all.
+    flags Gep >>= λ _. typ 64 >>= λ base. comma_pointer >>= λ ptr. index >>= λ first. more_indices (first ∷ []) >>= λ all.
     finished (insts.Gep dst base ptr all)
 
 unfoldable pub allocation : Loc → Part Inst
@@ -117,9 +121,13 @@ extraction dst =
 unfoldable pub arm : Ty → Part (Val × Loc)
 arm ty = punct open_bracket >>= λ _. value 62 ty >>= λ v. punct comma >>= λ _. local >>= λ from. punct close_bracket >>= λ _. gives (v, from)
 
+-- arms, and behind them those that follow
+abbrev pub more_arms : Ty → List (Val × Loc) → Part (List (Val × Loc))
+more_arms ty arms = more arms goes_on (punct comma >>= λ _. arm ty)
+
 unfoldable pub phi : Loc → Part Inst
 phi dst =
-    scalar >>= λ ty. arm ty >>= λ first. more (first ∷ []) goes_on (punct comma >>= λ _. arm ty) >>= λ all.
+    scalar >>= λ ty. arm ty >>= λ first. more_arms ty (first ∷ []) >>= λ all.
     finished (insts.Phi dst ty all)
 
 -- ---- calls, with a result and without
@@ -134,10 +142,17 @@ callee_of t = elim t.kind as (λ _. Option Sym) [ At ↦ if is_callee t.text the
 unfoldable pub argument : Part (Ty × Val)
 argument = typ 63 >>= λ ty. attributes false >>= λ _. value 62 ty >>= λ v. gives (ty, v)
 
+abbrev pub callee : Part Sym
+callee = one callee_of
+
+-- `@f ( T V , .. )`
+unfoldable pub call_operands : Part (Sym × List (Ty × Val))
+call_operands = callee >>= λ sym. punct open_paren >>= λ _. listed close_paren argument >>= λ args. gives (sym, args)
+
 unfoldable pub call : Option Loc → Part Inst
 call dst =
-    attributes true >>= λ _. result_type 63 >>= λ ret. one callee_of >>= λ callee. punct open_paren >>= λ _. listed close_paren argument >>= λ args. optional is_hash >>= λ _.
-    finished (insts.Call dst ret callee args)
+    attributes true >>= λ _. result_type 63 >>= λ ret. call_operands >>= λ x. optional is_hash >>= λ _.
+    finished (insts.Call dst ret x.0 x.1)
 
 unfoldable pub marked_call : Option Loc → Part Inst
 marked_call dst = keyword (codes "call") >>= λ _. call dst
@@ -152,27 +167,44 @@ storing =
 unfoldable pub fencing : Part Inst
 fencing = order >>= λ _. finished insts.Fence
 
--- `br label %L`, or `br i1 V, label %L, label %L`
+-- `br label %L`
+abbrev pub jump : Part Inst
+jump = label >>= λ to. finished (insts.Br to)
+
+-- `br i1 V, label %L, label %L`
+abbrev pub conditional : Part Inst
+conditional = keyword (codes "i1") >>= λ _. operand (types.Int W1) >>= λ cond. comma_label >>= λ yes. comma_label >>= λ no. finished (insts.CondBr cond yes no)
+
 unfoldable pub branch : Part Inst
-branch =
-    either (starts (is_word (codes "label")))
-    (label >>= λ to. finished (insts.Br to))
-    (keyword (codes "i1") >>= λ _. operand (types.Int W1) >>= λ cond. comma_label >>= λ yes. comma_label >>= λ no. finished (insts.CondBr cond yes no))
+branch = either (starts (is_word (codes "label"))) jump conditional
 
 -- `iN K , label %L`
 unfoldable pub arm_of_switch : Width → Part (ℕ × Loc)
 arm_of_switch w = keyword (width_text w) >>= λ _. integer w >>= λ n. comma_label >>= λ to. gives (n, to)
 
+-- cases, and behind them those that follow, up to the closing bracket
+abbrev pub more_cases : Width → List (ℕ × Loc) → Part (List (ℕ × Loc))
+more_cases w cases = more cases (starts (λ t. not (is_punct close_bracket t))) (arm_of_switch w)
+
+-- the cases in their brackets
+unfoldable pub switch_cases : Width → Part (List (ℕ × Loc))
+switch_cases w = punct open_bracket >>= λ _. more_cases w [] >>= λ cases. punct close_bracket >>= λ _. gives cases
+
 unfoldable pub switching : Part Inst
 switching =
-    width >>= λ w. operand (types.Int w) >>= λ on. comma_label >>= λ default. punct open_bracket >>= λ _. more [] (starts (λ t. not (is_punct close_bracket t))) (arm_of_switch w) >>= λ cases. punct close_bracket >>= λ _.
+    width >>= λ w. operand (types.Int w) >>= λ on. comma_label >>= λ default. switch_cases w >>= λ cases.
     finished (insts.Switch (types.Int w) on default cases)
 
-unfoldable pub return : Part Inst
-return =
-    either (starts (is_word (codes "void")))
-    (keyword (codes "void") >>= λ _. finished (insts.Ret types.Void None))
-    (typ 64 >>= λ ty. operand ty >>= λ v. finished (insts.Ret ty (Some v)))
+-- `ret void`
+abbrev pub plain_return : Part Inst
+plain_return = keyword (codes "void") >>= λ _. finished (insts.Ret types.Void None)
+
+-- `ret T V`
+abbrev pub value_return : Part Inst
+value_return = typ 64 >>= λ ty. operand ty >>= λ v. finished (insts.Ret ty (Some v))
+
+unfoldable pub returning : Part Inst
+returning = either (starts (is_word (codes "void"))) plain_return value_return
 
 -- ---- all lines
 
@@ -198,7 +230,7 @@ line_without plain.Call = call None
 line_without plain.MarkedCall = marked_call None
 line_without plain.Br = branch
 line_without plain.Switch = switching
-line_without plain.Ret = return
+line_without plain.Ret = returning
 line_without plain.Unreachable = finished insts.Unreachable
 
 -- `%x = ..`

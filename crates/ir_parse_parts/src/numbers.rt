@@ -151,6 +151,14 @@ impl Reader<'_> {
         self.take(found)
     }
 
+    /// 0 or 1.
+    pub fn bit(&mut self) -> Result<u8, Stop>
+        ensures { Gave result self.new ((count 2).reads self.old) }
+    {
+        let bit = self.count(1)?;
+        Ok(bit as u8)
+    }
+
     /// A count without a sign of at most `last`.
     pub fn count(&mut self, last: u64) -> Result<u64, Stop>
         ensures { Gave result self.new ((count (last + 1)).reads self.old) }

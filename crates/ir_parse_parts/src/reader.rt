@@ -1,5 +1,5 @@
 //! The tokens of a line that are left, and single tokens.
-ghost use Rattle.std.specs.Prelude.{◌≡◌, Bool, true, Ok, length, drop};
+ghost use Rattle.std.specs.Prelude.{◌≡◌, Bool, true, not, Ok, length, drop};
 ghost use Rattle.std.specs.Option.{option_map, option_and_then};
 ghost use Rattle.ir_grammar.specs.Tokens.{word_of, is_punct, is_word, is_bang, is_hash, is_local, punct, bang, keyword, local};
 ghost use Rattle.ir_parse_parts.specs.declared.stops.Stop.TheVariants.{Unfit};
@@ -80,6 +80,16 @@ impl<'a> Reader<'a> {
     {
         match self.peek() {
             Some(tok) => tok.is_punct(byte),
+            None => false,
+        }
+    }
+
+    /// Whether there is a next token, and it is another one than this punctuation.
+    pub fn at_other(&self, byte: u8) -> bool
+        ensures { result ≡ heads (λ t. not (is_punct byte t)) self.now }
+    {
+        match self.peek() {
+            Some(tok) => !tok.is_punct(byte),
             None => false,
         }
     }

@@ -1,9 +1,9 @@
 //! Types.
 ghost use Rattle.std.specs.Prelude.{◌≡◌, ◌<◌, suc};
-ghost use Rattle.ir_grammar.specs.Tokens.{close_brace};
+ghost use Rattle.ir_grammar.specs.Tokens.{close_brace, keyword};
 ghost use Rattle.ir_grammar.specs.Types.{width_word, scalar_word, memory_word, rmw_type_word, width, scalar, memory_type, rmw_type, width_text, scalar_text, type_word, bracket, type_head, listed, more_listed, type_rest, flat, flat_type, typ, result_head, result_type};
 ghost use Rattle.ir_parse_parts.specs.Views.{tok_view};
-ghost use Rattle.ir_parse_parts.specs.Reads.{Gave, Filled};
+ghost use Rattle.ir_parse_parts.specs.Reads.{Gave, Passed, Filled};
 
 use crate::{Reader, Stop, Tok, word_table};
 use ir_core::{Boxed, RmwOp, Seq, TokKind, Ty, TypeId, Tys, Width};
@@ -160,6 +160,20 @@ impl Reader<'_> {
             None => None,
         };
         self.take(found)
+    }
+
+    /// The integer type once more.
+    pub fn same_width(&mut self, width: Width) -> Result<(), Stop>
+        ensures { Passed result self.new ((keyword (width_text width)).reads self.old) }
+    {
+        self.keyword(width_text(width))
+    }
+
+    /// The type of one word once more.
+    pub fn same_type(&mut self, ty: &Ty) -> Result<(), Stop>
+        ensures { Passed result self.new ((keyword (scalar_text ty.now)).reads self.old) }
+    {
+        self.keyword(scalar_text(ty))
     }
 
     /// A type, with so many brackets at most that stand open in it at once.

@@ -1,0 +1,7 @@
+//! Instruction lines, read from their tokens.
+#![tactic(auto)]
+
+mod lists;
+mod operands;
+mod plain;
+mod results;
