@@ -7,3 +7,4 @@ pub mod OneKind
 pub mod LongestToken
 pub mod TokenLaws
 pub mod DroppedLines
+pub mod LineLaws
