@@ -1,7 +1,25 @@
 //! The lines of a text, one after another.
-ghost use Rattle.std.specs.Prelude.{◌≡◌, ◌<◌, ◌↔◌, List, [], ◌∷◌, ◌++◌, length, IfSome, IsNone};
-ghost use Rattle.std.specs.List.{flat_map};
-ghost use Rattle.ir_core.specs.Lines.{lines_of, IsFirstLine, fed};
+ghost use Rattle.std.specs.Prelude.{◌≡◌, ◌<◌, ◌≤◌, ◌↔◌, [], ◌∷◌, length, drop, IfSome, IsNone};
+ghost use Rattle.std.specs.List.{prefix_len};
+ghost use Rattle.ir_core.specs.Lines.{lines_of, isnt_feed, IsFirstLine};
+
+/// How many bytes stand before the first line feed.
+fn line_len(text: &[u8]) -> usize
+    ensures len { result ≡ prefix_len isnt_feed text.now }
+    ensures within { result ≤ length text.now }
+{
+    text.iter().take_while(|byte| **byte != b'\n').count()
+}
+
+/// The bytes without the first one, where there is one.
+fn behind_first(bytes: &[u8]) -> &[u8]
+    ensures { result.now ≡ drop 1 bytes.now }
+{
+    match bytes {
+        [_, rest @ ..] => rest,
+        [] => bytes,
+    }
+}
 
 /// The first line of a text, without the line feed that ends it, and the text behind it; nothing where
 /// the text is empty. So the lines are read one after another, in time linear in the text and without
@@ -15,8 +33,6 @@ pub fn split_line(text: &[u8]) -> Option<(&[u8], &[u8])>
     if text.is_empty() {
         return None;
     }
-    match text.iter().position(|byte| *byte == b'\n') {
-        Some(end) => Some((&text[..end], &text[end + 1..])),
-        None => Some((text, &[])),
-    }
+    let (line, rest) = text.split_at(line_len(text));
+    Some((line, behind_first(rest)))
 }
