@@ -13,28 +13,14 @@ fn blanks_len(line: &[u8]) -> usize
     ensures len { result ≡ prefix_len is_blank line.now }
     ensures within { result ≤ length line.now }
 {
-    let mut len = 0;
-    for &byte in line {
-        if !is_blank(byte) {
-            break;
-        }
-        len += 1;
-    }
-    len
+    line.iter().take_while(|byte| is_blank(**byte)).count()
 }
 
 fn word_len(line: &[u8]) -> usize
     ensures len { result ≡ prefix_len begins_word line.now }
     ensures within { result ≤ length line.now }
 {
-    let mut len = 0;
-    for &byte in line {
-        if !begins_word(byte) {
-            break;
-        }
-        len += 1;
-    }
-    len
+    line.iter().take_while(|byte| begins_word(**byte)).count()
 }
 
 /// How many bytes stand before the first `@`.
@@ -42,14 +28,7 @@ fn before_at(line: &[u8]) -> usize
     ensures len { result ≡ prefix_len isnt_at line.now }
     ensures within { result ≤ length line.now }
 {
-    let mut len = 0;
-    for &byte in line {
-        if byte == b'@' {
-            break;
-        }
-        len += 1;
-    }
-    len
+    line.iter().take_while(|byte| **byte != b'@').count()
 }
 
 fn past_blanks(line: &[u8]) -> &[u8]
