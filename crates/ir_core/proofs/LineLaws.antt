@@ -1,5 +1,5 @@
 -- The first line of a text and the lines of the rest are its lines, and the lines give the text back.
-use Rattle.std.proofs.Common.{◌≡◌, ℕ, ◌+◌, ◌<◌, ◌≤◌, ◌⊎◌, inl, inr, Bool, true, false, cond, eqb, List, [], ◌∷◌, ◌++◌, length, take, drop, refl, sym, ap, subst, ◌∙◌, arith, append_assoc}
+use Rattle.std.proofs.Common.{◌≡◌, ℕ, ◌+◌, ◌<◌, ◌≤◌, ◌⊎◌, inl, inr, Bool, true, false, not, cond, eqb, List, [], ◌∷◌, ◌++◌, length, take, drop, refl, sym, ap, subst, ◌∙◌, arith, append_assoc}
 use Rattle.std.specs.List.{prefix_len, list_all, flat_map}
 use Rattle.std.proofs.lemmas.Bool.{eqb-true, cases_lt}
 use Rattle.std.proofs.lemmas.Bool.Decides.{nat_tests}
@@ -109,3 +109,17 @@ lines_joined (b ∷ c ∷ text) = by (eqb b 10) refl (lines_joined (c ∷ text))
     by : (t : Bool) → eqb b 10 ≡ t → flat_map with_feed (lines_of (c ∷ text)) ≡ fed (c ∷ text) → (lines_of (c ∷ text) ≡ [] → ⊥) → flat_map with_feed (cond t ([] ∷ lines_of (c ∷ text)) (with_byte b (lines_of (c ∷ text)))) ≡ b ∷ fed (c ∷ text)
     by true e more some = ap (λ (l : List ℕ). 10 ∷ l) more ∙ ap (λ (n : ℕ). n ∷ fed (c ∷ text)) (sym (eqb-true b 10 e))
     by false e more some = pushed b (lines_of (c ∷ text)) some ∙ ap (λ (l : List ℕ). b ∷ l) more
+
+pushed_apart : (b : ℕ) (lines : List (List ℕ)) → isnt_feed b ≡ true → list_all (list_all isnt_feed) lines ≡ true → list_all (list_all isnt_feed) (with_byte b lines) ≡ true
+pushed_apart b [] e all = rw e refl
+pushed_apart b (line ∷ lines) e all = rw e all
+
+-- no line has a line feed
+pub lines_apart : (text : List ℕ) → list_all (list_all isnt_feed) (lines_of text) ≡ true
+unfolding lines_of
+lines_apart [] = refl
+lines_apart (b ∷ text) = by (eqb b 10) refl (lines_apart text)
+  where
+    by : (t : Bool) → eqb b 10 ≡ t → list_all (list_all isnt_feed) (lines_of text) ≡ true → list_all (list_all isnt_feed) (cond t ([] ∷ lines_of text) (with_byte b (lines_of text))) ≡ true
+    by true e more = more
+    by false e more = pushed_apart b (lines_of text) (ap not e) more

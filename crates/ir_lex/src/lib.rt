@@ -17,6 +17,6 @@ mod strings;
 pub use dropped::is_dropped;
 pub use ir_core::{LinePlace, TokKind, Token};
 pub use lex::{LexError, lex_line};
-pub use lines::split_line;
+pub use lines::{lines_law, split_line};
 pub use names::name_from;
 pub use strings::string_bytes;

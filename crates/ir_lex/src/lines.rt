@@ -1,7 +1,7 @@
 //! The lines of a text, one after another.
-ghost use Rattle.std.specs.Prelude.{◌≡◌, ◌<◌, ◌≤◌, ◌↔◌, [], ◌∷◌, length, drop, IfSome, IsNone};
-ghost use Rattle.std.specs.List.{prefix_len};
-ghost use Rattle.ir_core.specs.Lines.{lines_of, isnt_feed, IsFirstLine};
+ghost use Rattle.std.specs.Prelude.{◌≡◌, ◌<◌, ◌≤◌, ◌↔◌, [], ◌∷◌, ◌++◌, length, drop, IfSome, IsNone, IsTrue};
+ghost use Rattle.std.specs.List.{prefix_len, list_all, flat_map};
+ghost use Rattle.ir_core.specs.Lines.{lines_of, isnt_feed, IsFirstLine, fed};
 
 /// How many bytes stand before the first line feed.
 fn line_len(text: &[u8]) -> usize
@@ -35,4 +35,13 @@ pub fn split_line(text: &[u8]) -> Option<(&[u8], &[u8])>
     }
     let (line, rest) = text.split_at(line_len(text));
     Some((line, behind_first(rest)))
+}
+
+/// A law, which does nothing: the lines of a text, each with a line feed behind it, are the text with a
+/// line feed at its end; and no line has a line feed.
+pub fn lines_law(text: &[u8])
+    ensures joined { flat_map (λ line. line ++ 10 ∷ []) (lines_of text.now) ≡ fed text.now }
+    ensures apart { IsTrue (list_all (list_all isnt_feed) (lines_of text.now)) }
+{
+    let _ = text;
 }
