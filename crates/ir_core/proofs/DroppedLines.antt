@@ -1,20 +1,21 @@
 -- A line is told to be dropped exactly where it is.
-use Rattle.std.proofs.Common.{◌≡◌, ℕ, zero, suc, ◌+◌, ◌<◌, ◌≤◌, ◌⊎◌, inl, inr, Bool, true, false, not, ◌&&◌, ◌||◌, nat_lt, eqb, List, [], ◌∷◌, ◌++◌, length, take, drop, refl, sym, ap, subst, ◌∙◌, arith, append_assoc}
+use Rattle.std.proofs.Common.{◌≡◌, ℕ, zero, suc, ◌+◌, ◌<◌, ◌⊎◌, inl, inr, Bool, true, false, not, ◌&&◌, ◌||◌, nat_lt, eqb, List, [], ◌∷◌, ◌++◌, length, take, drop, refl, sym, ap, subst, ◌∙◌, arith, append_assoc}
 use Rattle.std.specs.Prelude.{codes}
 use Rattle.std.specs.List.{prefix_len, list_any, Contains, slice_index_or}
 use Rattle.std.specs.Bool.{Decides}
 use Rattle.std.specs.Str.{bytes_eq}
 use Rattle.std.proofs.lemmas.Bool.{eqb-true, lt-ltb}
-use Rattle.std.proofs.lemmas.Bool.Decides.{nat_tests, Decides-eqb}
-use Rattle.std.proofs.lemmas.List.{take_at, drop_at, length-append}
+use Rattle.std.proofs.lemmas.Bool.Decides.{Decides-eqb}
+use Rattle.std.proofs.lemmas.List.{drop_at, length-append}
 use Rattle.std.proofs.lemmas.Slice.Eq.{bytes_eq-Decides, starts_is}
 use Rattle.ir_core.specs.declared.text.LinePlace.{LinePlace}
 use Rattle.ir_core.specs.declared.text.LinePlace.TheVariants.{Top, Function, Switch}
 use Rattle.ir_core.specs.Tokens.{is_name, IsFront}
 use Rattle.ir_core.specs.TokenLengths.{name_len}
-use Rattle.ir_core.specs.Lines.{past_blanks, first_word, header_words, externals, debug_fronts, BehindAt, IsLongestName, SaysNothing, Header, Metadata, Nameless, Unknown, IsDebug, IsDropped}
+use Rattle.ir_core.specs.Lines.{past_blanks, first_word, header_words, externals, debug_fronts, BehindAt, SaysNothing, Header, Metadata, Nameless, Unknown, IsDebug, IsDropped}
 use Rattle.ir_core.specs.Dropping.{begins, isnt_at, has_at, name_at, is_among, is_header, is_foreign, is_debug, is_dropped}
 use Rattle.ir_core.proofs.Lengths.{both_true, both, either_true, run_ends, run_stops, names}
+use Rattle.ir_core.proofs.LongestName.{below, not_below, name_of, name_found, name_again, no_name}
 
 or_left : (a b : Bool) → a ≡ true → (a || b) ≡ true
 or_left true b e = refl
@@ -77,9 +78,6 @@ is_at b e = by (eqb b 64) refl e
     by true h e = eqb-true b 64 h
     by false h e = absurd cc
 
-below : (a b : ℕ) → nat_lt a b ≡ true → a < b
-below a b e = grind (arith, nat_tests)
-
 -- what stands behind the first `@`
 abbrev behind : List ℕ → List ℕ
 behind line = drop (prefix_len isnt_at line + 1) line
@@ -101,32 +99,6 @@ behind_again line rest h =
     let size : length (h.front ++ 64 ∷ []) ≡ prefix_len isnt_at line + 1 = length-append h.front (64 ∷ []) ∙ omega arith in
     let all : length line ≡ length h.front + suc (length rest) = ap length split ∙ length-append h.front (64 ∷ rest) in
     (lt-ltb _ _ (omega arith), ap (drop (prefix_len isnt_at line + 1)) h.whole ∙ drop_at (h.front ++ 64 ∷ []) rest _ size)
-
--- the longest name at the front, where there is one
-abbrev name_of : List ℕ → List ℕ
-name_of rest = take (name_len rest) rest
-
-name_bound : (rest other : List ℕ) → is_name other ≡ true → IsFront other rest → length other ≤ name_len rest
-name_bound rest other e h = subst (λ (l : List ℕ). length other ≤ name_len l) (sym h.1) (names.most other h.0 e)
-
-name_found : (rest : List ℕ) → 0 < name_len rest → IsLongestName (name_of rest) rest
-name_found rest lt =
-    let r = names.finds rest lt in
-    let same : name_of rest ≡ r.front = ap (take (name_len rest)) r.whole ∙ take_at r.front r.rest (name_len rest) (sym r.size) in
-    subst (λ (l : List ℕ). IsLongestName l rest) (sym same)
-    (record { is = r.passes; front = (r.rest, r.whole); longest = λ other e h. let b : length other ≤ name_len rest = name_bound rest other e h in omega (arith, r.size) })
-
-name_again : (rest name : List ℕ) → IsLongestName name rest → name_of rest ≡ name
-name_again rest name h =
-    let a : length name ≤ name_len rest = name_bound rest name h.is h.front in
-    let r = names.finds rest (omega (arith, filled name h.is)) in
-    let b : length r.front ≤ length name = h.longest r.front r.passes (r.rest, r.whole) in
-    let size : length name ≡ name_len rest = omega (arith, r.size) in
-    ap (take (name_len rest)) h.front.1 ∙ take_at name h.front.0 (name_len rest) size
-  where
-    filled : (name : List ℕ) → is_name name ≡ true → 0 < length name
-    filled [] e = absurd cc
-    filled (b ∷ name) e = omega arith
 
 -- ---- the kinds of dropped lines
 
@@ -152,14 +124,7 @@ foreign_found line e =
     by : first_word line ≡ codes "declare" → BehindAt line (behind line) → not (is_among externals (name_of (behind line))) ≡ true → (t : Bool) → nat_lt 0 (name_len (behind line)) ≡ t → SaysNothing line
     by word at unknown true e =
         Unknown (behind line) (name_of (behind line)) word at (name_found (behind line) (below _ _ e)) (λ h. not_known (is_among externals (name_of (behind line))) unknown (known_again externals (name_of (behind line)) h))
-    by word at unknown false e = Nameless (behind line) word at (λ name n h. none name n (name_bound (behind line) name n h))
-      where
-        nothing : (n : ℕ) → nat_lt 0 n ≡ false → n ≡ 0
-        nothing n e = grind (arith, nat_tests)
-
-        none : (name : List ℕ) → is_name name ≡ true → length name ≤ name_len (behind line) → ⊥
-        none [] n le = absurd cc
-        none (b ∷ name) n le = let k : name_len (behind line) ≡ 0 = nothing _ e in omega arith
+    by word at unknown false e = Nameless (behind line) word at (λ name n h. no_name (behind line) name (not_below _ e) n h)
 
 nothing_found : (line : List ℕ) → (is_header line || is_foreign line) ≡ true → SaysNothing line
 nothing_found line e = by (either_true (is_header line) (is_foreign line) e)
@@ -205,12 +170,9 @@ module _ (line : List ℕ) where
   nothing_again (Metadata h) = by_header (or_right (is_among header_words (first_word line)) (begins (codes "!") line) (begins_again (codes "!") line h))
   nothing_again (Nameless rest word at none) = by_foreign (foreign_again rest word at (nothing rest (nat_lt 0 (name_len rest)) refl none))
     where
-      zero_is : (n : ℕ) → nat_lt 0 n ≡ false → n ≡ 0
-      zero_is n e = grind (arith, nat_tests)
-
       nothing : (rest : List ℕ) (t : Bool) → nat_lt 0 (name_len rest) ≡ t → ((name : List ℕ) → is_name name ≡ true → IsFront name rest → ⊥) → is_among externals (name_of rest) ≡ false
       nothing rest true e none = let r = names.finds rest (below _ _ e) in absurd (none r.front r.passes (r.rest, r.whole))
-      nothing rest false e none = ap (λ (n : ℕ). is_among externals (take n rest)) (zero_is _ e)
+      nothing rest false e none = ap (λ (n : ℕ). is_among externals (take n rest)) (not_below _ e)
   nothing_again (Unknown rest name word at is unknown) = by_foreign (foreign_again rest word at (by (is_among externals (name_of rest)) refl))
     where
       by : (t : Bool) → is_among externals (name_of rest) ≡ t → t ≡ false

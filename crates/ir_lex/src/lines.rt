@@ -1,5 +1,5 @@
 //! The lines of a text, one after another.
-ghost use Rattle.std.specs.Prelude.{◌≡◌, ◌<◌, ◌≤◌, ◌↔◌, [], ◌∷◌, ◌++◌, length, drop, IfSome, IsNone, IsTrue};
+ghost use Rattle.std.specs.Prelude.{◌≡◌, ◌+◌, ◌<◌, ◌≤◌, ◌↔◌, [], ◌∷◌, ◌++◌, length, drop, IfSome, IsNone, IsTrue};
 ghost use Rattle.std.specs.List.{prefix_len, list_all, flat_map};
 ghost use Rattle.ir_core.specs.Lines.{lines_of, isnt_feed, IsFirstLine, fed};
 
@@ -27,6 +27,7 @@ fn behind_first(bytes: &[u8]) -> &[u8]
 pub fn split_line(text: &[u8]) -> Option<(&[u8], &[u8])>
     ensures lines { IfSome result (λ split. lines_of text.now ≡ split.0.now ∷ lines_of split.1.now) }
     ensures first { IfSome result (λ split. IsFirstLine text.now split.0.now split.1.now) }
+    ensures within { IfSome result (λ split. length split.0.now + length split.1.now ≤ length text.now) }
     ensures shorter { IfSome result (λ split. length split.1.now < length text.now) }
     ensures none { IsNone result ↔ (text.now ≡ []) }
 {

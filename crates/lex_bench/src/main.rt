@@ -39,7 +39,7 @@ fn copied_count(alloc: Global, text: &[u8]) -> Result<usize, AllocError>
 }
 
 /// What the words ask for; nothing where a file can't be read, a line has a bad byte or memory runs out.
-fn count<R: Files + AllocGlobal>(rt: &R, words: &[String]) -> Option<usize> {
+fn count<'a, R: Files + AllocGlobal>(rt: &'a R, words: &'a [String]) -> Option<usize> {
     let name = words.first().map(|word| word.as_str());
     let mut inputs = FileInputs::new(rt, name, None);
     let text = read_whole(rt.alloc(), &mut inputs, Which::First, LIMIT).ok()?;
