@@ -9,6 +9,8 @@ mod faults;
 #[cfg(test)]
 mod instructions;
 #[cfg(test)]
+mod lines;
+#[cfg(test)]
 mod names;
 #[cfg(test)]
 mod parts;

@@ -1,18 +1,21 @@
 -- A line is told to be dropped exactly where it is.
-use Rattle.std.proofs.Common.{◌≡◌, ℕ, zero, suc, ◌+◌, ◌<◌, ◌≤◌, ◌⊎◌, inl, inr, Bool, true, false, not, ◌&&◌, ◌||◌, nat_lt, eqb, List, [], ◌∷◌, ◌++◌, length, take, drop, refl, sym, ap, subst, ◌∙◌, arith, append_assoc}
+use Rattle.std.proofs.Common.{◌≡◌, ℕ, zero, suc, ◌+◌, ◌<◌, ◌⊎◌, inl, inr, Bool, true, false, not, ◌&&◌, ◌||◌, nat_lt, eqb, List, [], ◌∷◌, ◌++◌, length, take, drop, refl, sym, ap, subst, ◌∙◌, arith, append_assoc}
 use Rattle.std.specs.Prelude.{codes}
 use Rattle.std.specs.List.{prefix_len, list_any, Contains, slice_index_or}
 use Rattle.std.specs.Bool.{Decides}
 use Rattle.std.specs.Str.{bytes_eq}
 use Rattle.std.proofs.lemmas.Bool.{eqb-true, lt-ltb}
-use Rattle.std.proofs.lemmas.Bool.Decides.{nat_tests, Decides-eqb}
-use Rattle.std.proofs.lemmas.List.{take_at, drop_at, length-append}
+use Rattle.std.proofs.lemmas.Bool.Decides.{Decides-eqb}
+use Rattle.std.proofs.lemmas.List.{drop_at, length-append}
 use Rattle.std.proofs.lemmas.Slice.Eq.{bytes_eq-Decides, starts_is}
+use Rattle.ir_core.specs.declared.text.LinePlace.{LinePlace}
+use Rattle.ir_core.specs.declared.text.LinePlace.TheVariants.{Top, Function, Switch}
 use Rattle.ir_core.specs.Tokens.{is_name, IsFront}
 use Rattle.ir_core.specs.TokenLengths.{name_len}
-use Rattle.ir_core.specs.Lines.{past_blanks, first_word, header_words, externals, debug_fronts, BehindAt, IsLongestName, IsDropped, Header, Metadata, Nameless, Unknown, Debug}
+use Rattle.ir_core.specs.Lines.{past_blanks, first_word, header_words, externals, debug_fronts, BehindAt, SaysNothing, Header, Metadata, Nameless, Unknown, IsDebug, IsDropped}
 use Rattle.ir_core.specs.Dropping.{begins, isnt_at, has_at, name_at, is_among, is_header, is_foreign, is_debug, is_dropped}
 use Rattle.ir_core.proofs.Lengths.{both_true, both, either_true, run_ends, run_stops, names}
+use Rattle.ir_core.proofs.LongestName.{below, not_below, name_of, name_found, name_again, no_name}
 
 or_left : (a b : Bool) → a ≡ true → (a || b) ≡ true
 or_left true b e = refl
@@ -75,9 +78,6 @@ is_at b e = by (eqb b 64) refl e
     by true h e = eqb-true b 64 h
     by false h e = absurd cc
 
-below : (a b : ℕ) → nat_lt a b ≡ true → a < b
-below a b e = grind (arith, nat_tests)
-
 -- what stands behind the first `@`
 abbrev behind : List ℕ → List ℕ
 behind line = drop (prefix_len isnt_at line + 1) line
@@ -100,45 +100,19 @@ behind_again line rest h =
     let all : length line ≡ length h.front + suc (length rest) = ap length split ∙ length-append h.front (64 ∷ rest) in
     (lt-ltb _ _ (omega arith), ap (drop (prefix_len isnt_at line + 1)) h.whole ∙ drop_at (h.front ++ 64 ∷ []) rest _ size)
 
--- the longest name at the front, where there is one
-abbrev name_of : List ℕ → List ℕ
-name_of rest = take (name_len rest) rest
+-- ---- the kinds of dropped lines
 
-name_bound : (rest other : List ℕ) → is_name other ≡ true → IsFront other rest → length other ≤ name_len rest
-name_bound rest other e h = subst (λ (l : List ℕ). length other ≤ name_len l) (sym h.1) (names.most other h.0 e)
-
-name_found : (rest : List ℕ) → 0 < name_len rest → IsLongestName (name_of rest) rest
-name_found rest lt =
-    let r = names.finds rest lt in
-    let same : name_of rest ≡ r.front = ap (take (name_len rest)) r.whole ∙ take_at r.front r.rest (name_len rest) (sym r.size) in
-    subst (λ (l : List ℕ). IsLongestName l rest) (sym same)
-    (record { is = r.passes; front = (r.rest, r.whole); longest = λ other e h. let b : length other ≤ name_len rest = name_bound rest other e h in omega (arith, r.size) })
-
-name_again : (rest name : List ℕ) → IsLongestName name rest → name_of rest ≡ name
-name_again rest name h =
-    let a : length name ≤ name_len rest = name_bound rest name h.is h.front in
-    let r = names.finds rest (omega (arith, filled name h.is)) in
-    let b : length r.front ≤ length name = h.longest r.front r.passes (r.rest, r.whole) in
-    let size : length name ≡ name_len rest = omega (arith, r.size) in
-    ap (take (name_len rest)) h.front.1 ∙ take_at name h.front.0 (name_len rest) size
-  where
-    filled : (name : List ℕ) → is_name name ≡ true → 0 < length name
-    filled [] e = absurd cc
-    filled (b ∷ name) e = omega arith
-
--- ---- the four kinds of dropped lines
-
-header_found : (inside : Bool) (line : List ℕ) → is_header line ≡ true → IsDropped inside line
+header_found : (line : List ℕ) → is_header line ≡ true → SaysNothing line
 unfolding is_header
-header_found inside line e = by (either_true (is_among header_words (first_word line)) (begins (codes "!") line) e)
+header_found line e = by (either_true (is_among header_words (first_word line)) (begins (codes "!") line) e)
   where
-    by : (is_among header_words (first_word line) ≡ true) ⊎ (begins (codes "!") line ≡ true) → IsDropped inside line
+    by : (is_among header_words (first_word line) ≡ true) ⊎ (begins (codes "!") line ≡ true) → SaysNothing line
     by (inl h) = Header (known_found header_words (first_word line) h)
     by (inr h) = Metadata (begins_found (codes "!") line h)
 
-foreign_found : (inside : Bool) (line : List ℕ) → is_foreign line ≡ true → IsDropped inside line
+foreign_found : (line : List ℕ) → is_foreign line ≡ true → SaysNothing line
 unfolding is_foreign
-foreign_found inside line e =
+foreign_found line e =
     let w = both_true (bytes_eq (first_word line) (codes "declare") && has_at line) _ e in
     let v = both_true (bytes_eq (first_word line) (codes "declare")) (has_at line) w.0 in
     by ((bytes_eq-Decides (first_word line) (codes "declare")).0 v.0) (behind_found line v.1) w.1 (nat_lt 0 (name_len (behind line))) refl
@@ -147,46 +121,38 @@ foreign_found inside line e =
     not_known true e f = absurd cc
     not_known false e f = absurd cc
 
-    by : first_word line ≡ codes "declare" → BehindAt line (behind line) → not (is_among externals (name_of (behind line))) ≡ true → (t : Bool) → nat_lt 0 (name_len (behind line)) ≡ t → IsDropped inside line
+    by : first_word line ≡ codes "declare" → BehindAt line (behind line) → not (is_among externals (name_of (behind line))) ≡ true → (t : Bool) → nat_lt 0 (name_len (behind line)) ≡ t → SaysNothing line
     by word at unknown true e =
         Unknown (behind line) (name_of (behind line)) word at (name_found (behind line) (below _ _ e)) (λ h. not_known (is_among externals (name_of (behind line))) unknown (known_again externals (name_of (behind line)) h))
-    by word at unknown false e = Nameless (behind line) word at (λ name n h. none name n (name_bound (behind line) name n h))
-      where
-        nothing : (n : ℕ) → nat_lt 0 n ≡ false → n ≡ 0
-        nothing n e = grind (arith, nat_tests)
+    by word at unknown false e = Nameless (behind line) word at (λ name n h. no_name (behind line) name (not_below _ e) n h)
 
-        none : (name : List ℕ) → is_name name ≡ true → length name ≤ name_len (behind line) → ⊥
-        none [] n le = absurd cc
-        none (b ∷ name) n le = let k : name_len (behind line) ≡ 0 = nothing _ e in omega arith
-
-debug_found : (inside : Bool) (line : List ℕ) → inside ≡ true → is_debug (past_blanks line) ≡ true → IsDropped inside line
-unfolding is_debug
-debug_found inside line here e = let k = front_found debug_fronts (past_blanks line) e in Debug k.0 here k.1 k.2
-
-dropped_found : (inside : Bool) (line : List ℕ) → is_dropped inside line ≡ true → IsDropped inside line
-unfolding is_dropped
-dropped_found inside line e = by (either_true (is_header line || is_foreign line) (inside && is_debug (past_blanks line)) e)
+nothing_found : (line : List ℕ) → (is_header line || is_foreign line) ≡ true → SaysNothing line
+nothing_found line e = by (either_true (is_header line) (is_foreign line) e)
   where
-    early : (is_header line ≡ true) ⊎ (is_foreign line ≡ true) → IsDropped inside line
-    early (inl h) = header_found inside line h
-    early (inr h) = foreign_found inside line h
+    by : (is_header line ≡ true) ⊎ (is_foreign line ≡ true) → SaysNothing line
+    by (inl h) = header_found line h
+    by (inr h) = foreign_found line h
 
-    by : ((is_header line || is_foreign line) ≡ true) ⊎ ((inside && is_debug (past_blanks line)) ≡ true) → IsDropped inside line
-    by (inl h) = early (either_true _ _ h)
-    by (inr h) = let w = both_true inside (is_debug (past_blanks line)) h in debug_found inside line w.0 w.1
+debug_found : (line : List ℕ) → is_debug (past_blanks line) ≡ true → IsDebug line
+unfolding is_debug
+debug_found line e = let k = front_found debug_fronts (past_blanks line) e in record { front = k.0; known = k.1; begins = k.2 }
 
-module _ (inside : Bool) (line : List ℕ) where
-  by_header : is_header line ≡ true → is_dropped inside line ≡ true
-  unfolding is_dropped
-  by_header e = or_left (is_header line || is_foreign line) _ (or_left (is_header line) (is_foreign line) e)
+dropped_found : (place : LinePlace) (line : List ℕ) → is_dropped place line ≡ true → IsDropped place line
+unfolding is_dropped
+dropped_found Top line e = nothing_found line e
+dropped_found Function line e = by (either_true (is_header line || is_foreign line) (is_debug (past_blanks line)) e)
+  where
+    by : ((is_header line || is_foreign line) ≡ true) ⊎ (is_debug (past_blanks line) ≡ true) → SaysNothing line ⊎ IsDebug line
+    by (inl h) = inl (nothing_found line h)
+    by (inr h) = inr (debug_found line h)
+dropped_found Switch line e = absurd cc
 
-  by_foreign : is_foreign line ≡ true → is_dropped inside line ≡ true
-  unfolding is_dropped
-  by_foreign e = or_left (is_header line || is_foreign line) _ (or_right (is_header line) (is_foreign line) e)
+module _ (line : List ℕ) where
+  by_header : is_header line ≡ true → (is_header line || is_foreign line) ≡ true
+  by_header e = or_left (is_header line) (is_foreign line) e
 
-  by_debug : inside ≡ true → is_debug (past_blanks line) ≡ true → is_dropped inside line ≡ true
-  unfolding is_dropped
-  by_debug e h = or_right (is_header line || is_foreign line) _ (both inside (is_debug (past_blanks line)) e h)
+  by_foreign : is_foreign line ≡ true → (is_header line || is_foreign line) ≡ true
+  by_foreign e = or_right (is_header line) (is_foreign line) e
 
   word_is : (text : List ℕ) → first_word line ≡ text → bytes_eq (first_word line) text ≡ true
   word_is text e = (bytes_eq-Decides (first_word line) text).1 e
@@ -198,24 +164,31 @@ module _ (inside : Bool) (line : List ℕ) where
       let name : is_among externals (name_at line) ≡ false = ap (λ (l : List ℕ). is_among externals (name_of l)) w.1 ∙ unknown in
       both _ _ (both _ _ (word_is (codes "declare") word) w.0) (ap not name)
 
-  dropped_again : IsDropped inside line → is_dropped inside line ≡ true
-  unfolding is_header is_debug
-  dropped_again (Header h) = by_header (or_left (is_among header_words (first_word line)) (begins (codes "!") line) (known_again header_words (first_word line) h))
-  dropped_again (Metadata h) = by_header (or_right (is_among header_words (first_word line)) (begins (codes "!") line) (begins_again (codes "!") line h))
-  dropped_again (Nameless rest word at none) = by_foreign (foreign_again rest word at (nothing rest (nat_lt 0 (name_len rest)) refl none))
+  nothing_again : SaysNothing line → (is_header line || is_foreign line) ≡ true
+  unfolding is_header
+  nothing_again (Header h) = by_header (or_left (is_among header_words (first_word line)) (begins (codes "!") line) (known_again header_words (first_word line) h))
+  nothing_again (Metadata h) = by_header (or_right (is_among header_words (first_word line)) (begins (codes "!") line) (begins_again (codes "!") line h))
+  nothing_again (Nameless rest word at none) = by_foreign (foreign_again rest word at (nothing rest (nat_lt 0 (name_len rest)) refl none))
     where
-      zero_is : (n : ℕ) → nat_lt 0 n ≡ false → n ≡ 0
-      zero_is n e = grind (arith, nat_tests)
-
       nothing : (rest : List ℕ) (t : Bool) → nat_lt 0 (name_len rest) ≡ t → ((name : List ℕ) → is_name name ≡ true → IsFront name rest → ⊥) → is_among externals (name_of rest) ≡ false
       nothing rest true e none = let r = names.finds rest (below _ _ e) in absurd (none r.front r.passes (r.rest, r.whole))
-      nothing rest false e none = ap (λ (n : ℕ). is_among externals (take n rest)) (zero_is _ e)
-  dropped_again (Unknown rest name word at is unknown) = by_foreign (foreign_again rest word at (by (is_among externals (name_of rest)) refl))
+      nothing rest false e none = ap (λ (n : ℕ). is_among externals (take n rest)) (not_below _ e)
+  nothing_again (Unknown rest name word at is unknown) = by_foreign (foreign_again rest word at (by (is_among externals (name_of rest)) refl))
     where
       by : (t : Bool) → is_among externals (name_of rest) ≡ t → t ≡ false
       by true e = absurd (unknown (subst (λ (l : List ℕ). Contains externals l) (name_again rest name is) (known_found externals (name_of rest) e)))
       by false e = refl
-  dropped_again (Debug front e known is) = by_debug e (front_again debug_fronts front (past_blanks line) known is)
 
-pub is_dropped-Decides : (inside : Bool) (line : List ℕ) → Decides (is_dropped inside line) (IsDropped inside line)
-is_dropped-Decides inside line = (dropped_found inside line, dropped_again inside line)
+debug_again : (line : List ℕ) → IsDebug line → is_debug (past_blanks line) ≡ true
+unfolding is_debug
+debug_again line h = front_again debug_fronts h.front (past_blanks line) h.known h.begins
+
+dropped_again : (place : LinePlace) (line : List ℕ) → IsDropped place line → is_dropped place line ≡ true
+unfolding is_dropped
+dropped_again Top line h = nothing_again line h
+dropped_again Function line (inl h) = or_left (is_header line || is_foreign line) (is_debug (past_blanks line)) (nothing_again line h)
+dropped_again Function line (inr h) = or_right (is_header line || is_foreign line) (is_debug (past_blanks line)) (debug_again line h)
+dropped_again Switch line h = absurd h
+
+pub is_dropped-Decides : (place : LinePlace) (line : List ℕ) → Decides (is_dropped place line) (IsDropped place line)
+is_dropped-Decides place line = (dropped_found place line, dropped_again place line)

@@ -6,4 +6,6 @@ pub mod Found
 pub mod OneKind
 pub mod LongestToken
 pub mod TokenLaws
+pub mod LongestName
 pub mod DroppedLines
+pub mod LineLaws

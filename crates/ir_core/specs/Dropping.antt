@@ -1,9 +1,11 @@
 -- How it is told whether a line is dropped. `Lines` says what is meant; no clause that a reader of lines
 -- relies on cites what stands here.
-use Rattle.std.specs.Prelude.{ℕ, ◌+◌, ◌==◌, ◌&&◌, ◌||◌, not, nat_eq, nat_lt, Bool, List, length, take, drop, codes}
+use Rattle.std.specs.Prelude.{ℕ, ◌+◌, ◌==◌, ◌&&◌, ◌||◌, not, nat_eq, nat_lt, Bool, false, List, length, codes}
 use Rattle.std.specs.List.{prefix_len, list_any, starts_with}
 use Rattle.std.specs.Str.{bytes_eq}
-use Rattle.ir_core.specs.TokenLengths.{name_len}
+use Rattle.ir_core.specs.declared.text.LinePlace.{LinePlace}
+use Rattle.ir_core.specs.declared.text.LinePlace.TheVariants.{Top, Function, Switch}
+use Rattle.ir_core.specs.TokenLengths.{name_from}
 use Rattle.ir_core.specs.Lines.{past_blanks, first_word, header_words, externals, debug_fronts}
 
 abbrev pub begins : List ℕ → List ℕ → Bool
@@ -18,7 +20,7 @@ has_at line = nat_lt (prefix_len isnt_at line) (length line)
 
 -- the longest name directly behind it, or nothing
 abbrev pub name_at : List ℕ → List ℕ
-name_at line = take (name_len (drop (prefix_len isnt_at line + 1) line)) (drop (prefix_len isnt_at line + 1) line)
+name_at line = name_from line (prefix_len isnt_at line + 1)
 
 -- the word is one of these
 abbrev pub is_among : List (List ℕ) → List ℕ → Bool
@@ -33,5 +35,7 @@ is_foreign line = bytes_eq (first_word line) (codes "declare") && has_at line &&
 unfoldable pub is_debug : List ℕ → Bool
 is_debug rest = list_any (λ front. begins front rest) debug_fronts
 
-unfoldable pub is_dropped : Bool → List ℕ → Bool
-is_dropped inside line = is_header line || is_foreign line || (inside && is_debug (past_blanks line))
+unfoldable pub is_dropped : LinePlace → List ℕ → Bool
+is_dropped Top line = is_header line || is_foreign line
+is_dropped Function line = is_header line || is_foreign line || is_debug (past_blanks line)
+is_dropped Switch line = false

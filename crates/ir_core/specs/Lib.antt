@@ -5,3 +5,4 @@ pub mod Tokens
 pub mod TokenLengths
 pub mod Lines
 pub mod Dropping
+pub mod Strings

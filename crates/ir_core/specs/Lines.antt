@@ -1,6 +1,8 @@
 -- Texts as lines, and the lines that are dropped without being cut into tokens.
-use Rattle.std.specs.Prelude.{ℕ, ◌≡◌, ◌≤◌, ◌==◌, not, if◌then◌else◌, Bool, IsTrue, List, [], ◌∷◌, ◌++◌, length, take, drop, codes}
+use Rattle.std.specs.Prelude.{ℕ, ◌≡◌, ◌≤◌, ◌==◌, ◌⊎◌, not, if◌then◌else◌, Bool, IsTrue, List, [], ◌∷◌, ◌++◌, length, take, drop, codes}
 use Rattle.std.specs.List.{list_all, prefix_len, Contains}
+use Rattle.ir_core.specs.declared.text.LinePlace.{LinePlace}
+use Rattle.ir_core.specs.declared.text.LinePlace.TheVariants.{Top, Function, Switch}
 use Rattle.ir_core.specs.Tokens.{is_blank, begins_word, is_name, IsFront}
 
 -- ---- lines
@@ -14,6 +16,21 @@ with_byte b (line ∷ lines) = (b ∷ line) ∷ lines
 unfoldable pub lines_of : List ℕ → List (List ℕ)
 lines_of [] = []
 lines_of (b ∷ bytes) = if b == 10 then [] ∷ lines_of bytes else with_byte b (lines_of bytes)
+
+-- any byte but a line feed
+abbrev pub isnt_feed : ℕ → Bool
+isnt_feed b = not (b == 10)
+
+-- The text is a line, its line feed and the rest, or it is a line alone, which the end of the text ends.
+pub record IsFirstLine (text line rest : List ℕ) : Type 0 where
+  pub is_line : IsTrue (list_all isnt_feed line)
+  pub whole : (text ≡ line ++ 10 ∷ rest) ⊎ ((text ≡ line) × (rest ≡ []))
+
+-- the text with a line feed at its end, where it has another byte there
+abbrev pub fed : List ℕ → List ℕ
+fed [] = []
+fed (b ∷ []) = if b == 10 then b ∷ [] else b ∷ 10 ∷ []
+fed (b ∷ c ∷ bytes) = b ∷ fed (c ∷ bytes)
 
 -- ---- lines that are dropped
 
@@ -49,10 +66,21 @@ pub record IsLongestName (name bytes : List ℕ) : Type 0 where
   pub front : IsFront name bytes
   pub longest : (other : List ℕ) → IsTrue (is_name other) → IsFront other bytes → length other ≤ length name
 
--- The line is accepted and dropped without being cut into tokens; the Bool says whether it stands inside a function.
-pub data IsDropped (inside : Bool) (line : List ℕ) : Type 0 where
-  Header : Contains header_words (first_word line) → IsDropped inside line
-  Metadata : IsFront (codes "!") line → IsDropped inside line
-  Nameless : (rest : List ℕ) → first_word line ≡ codes "declare" → BehindAt line rest → ((name : List ℕ) → IsTrue (is_name name) → IsFront name rest → ⊥) → IsDropped inside line
-  Unknown : (rest name : List ℕ) → first_word line ≡ codes "declare" → BehindAt line rest → IsLongestName name rest → (Contains externals name → ⊥) → IsDropped inside line
-  Debug : (front : List ℕ) → IsTrue inside → Contains debug_fronts front → IsFront front (past_blanks line) → IsDropped inside line
+-- The line says nothing of what the program does.
+pub data SaysNothing (line : List ℕ) : Type 0 where
+  Header : Contains header_words (first_word line) → SaysNothing line
+  Metadata : IsFront (codes "!") line → SaysNothing line
+  Nameless : (rest : List ℕ) → first_word line ≡ codes "declare" → BehindAt line rest → ((name : List ℕ) → IsTrue (is_name name) → IsFront name rest → ⊥) → SaysNothing line
+  Unknown : (rest name : List ℕ) → first_word line ≡ codes "declare" → BehindAt line rest → IsLongestName name rest → (Contains externals name → ⊥) → SaysNothing line
+
+-- The line is a record or a call that only a debugger reads, or one that says how long a variable is in use.
+pub record IsDebug (line : List ℕ) : Type 0 where
+  pub front : List ℕ
+  pub known : Contains debug_fronts front
+  pub begins : IsFront front (past_blanks line)
+
+-- The line is accepted and dropped without being cut into tokens, where it stands at this place.
+abbrev pub IsDropped : LinePlace → List ℕ → Type 0
+IsDropped Top line = SaysNothing line
+IsDropped Function line = SaysNothing line ⊎ IsDebug line
+IsDropped Switch line = ⊥

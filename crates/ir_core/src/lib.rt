@@ -20,6 +20,6 @@ pub use instruction::{
 };
 pub use lists::{Name, Seq};
 pub use modules::{Func, Module};
-pub use text::{TokKind, Token};
+pub use text::{LinePlace, TokKind, Token};
 pub use types::{Boxed, Loc, Sym, Tid, Ty, TypeId, Tys, Width};
 pub use values::{ConstGep, Declare, GlobalVar, Indices, Init, Inits, Out, Side, Val};

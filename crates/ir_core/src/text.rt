@@ -1,4 +1,4 @@
-//! The tokens of the text of a module.
+//! The tokens of the text of a module, and where its lines stand.
 
 /// The kinds of token. A name is a letter, `-`, `$`, `.` or `_` and then such bytes and digits, or it is
 /// digits alone.
@@ -33,4 +33,15 @@ pub struct Token {
     pub kind: TokKind,
     pub start: u32,
     pub end: u32,
+}
+
+/// Where a line stands, on which it depends whether it is dropped.
+#[derive(Clone, Copy, PartialEq, Eq)]
+pub enum LinePlace {
+    /// Outside functions.
+    Top,
+    /// Inside a function, and not between the brackets of a `switch`.
+    Function,
+    /// Between the `[` and the `]` of one `switch`.
+    Switch,
 }

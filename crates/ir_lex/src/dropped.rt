@@ -5,34 +5,22 @@ ghost use Rattle.ir_core.specs.Tokens.{is_blank, begins_word};
 ghost use Rattle.ir_core.specs.Lines.{past_blanks, first_word, externals, IsDropped};
 ghost use Rattle.ir_core.specs.Dropping.{isnt_at, has_at, name_at, is_among, begins, is_header, is_foreign, is_debug, is_dropped};
 
-use crate::lengths::{begins_word, is_blank, name_len};
+use crate::lengths::{begins_word, is_blank};
+use crate::names::name_from;
+use ir_core::LinePlace;
 
 fn blanks_len(line: &[u8]) -> usize
     ensures len { result ≡ prefix_len is_blank line.now }
     ensures within { result ≤ length line.now }
 {
-    let mut len = 0;
-    for &byte in line {
-        if !is_blank(byte) {
-            break;
-        }
-        len += 1;
-    }
-    len
+    line.iter().take_while(|byte| is_blank(**byte)).count()
 }
 
 fn word_len(line: &[u8]) -> usize
     ensures len { result ≡ prefix_len begins_word line.now }
     ensures within { result ≤ length line.now }
 {
-    let mut len = 0;
-    for &byte in line {
-        if !begins_word(byte) {
-            break;
-        }
-        len += 1;
-    }
-    len
+    line.iter().take_while(|byte| begins_word(**byte)).count()
 }
 
 /// How many bytes stand before the first `@`.
@@ -40,14 +28,7 @@ fn before_at(line: &[u8]) -> usize
     ensures len { result ≡ prefix_len isnt_at line.now }
     ensures within { result ≤ length line.now }
 {
-    let mut len = 0;
-    for &byte in line {
-        if byte == b'@' {
-            break;
-        }
-        len += 1;
-    }
-    len
+    line.iter().take_while(|byte| **byte != b'@').count()
 }
 
 fn past_blanks(line: &[u8]) -> &[u8]
@@ -101,8 +82,7 @@ fn is_foreign(line: &[u8]) -> bool
     if at == line.len() {
         return false;
     }
-    let rest = &line[at + 1..];
-    !is_external(&rest[..name_len(rest)])
+    !is_external(name_from(line, at + 1))
 }
 
 #[tactic(auto, unfolding(ir_core::specs::Dropping::is_debug))]
@@ -117,15 +97,19 @@ fn is_debug(rest: &[u8]) -> bool
 }
 
 #[tactic(auto, unfolding(ir_core::specs::Dropping::is_dropped))]
-fn has_dropped_form(inside: bool, line: &[u8]) -> bool
-    ensures { result ≡ is_dropped inside line.now }
+fn has_dropped_form(place: LinePlace, line: &[u8]) -> bool
+    ensures { result ≡ is_dropped place line.now }
 {
-    is_header(line) || is_foreign(line) || inside && is_debug(past_blanks(line))
+    match place {
+        LinePlace::Top => is_header(line) || is_foreign(line),
+        LinePlace::Function => is_header(line) || is_foreign(line) || is_debug(past_blanks(line)),
+        LinePlace::Switch => false,
+    }
 }
 
-/// Whether a line is dropped without being cut into tokens, `inside` a function or outside.
-pub fn is_dropped(inside: bool, line: &[u8]) -> bool
-    ensures { IsTrue result ↔ IsDropped inside line.now }
+/// Whether a line is dropped without being cut into tokens, where it stands at this place.
+pub fn is_dropped(place: LinePlace, line: &[u8]) -> bool
+    ensures { IsTrue result ↔ IsDropped place line.now }
 {
-    has_dropped_form(inside, line)
+    has_dropped_form(place, line)
 }

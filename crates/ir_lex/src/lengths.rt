@@ -60,56 +60,31 @@ fn digits_len(bytes: &[u8]) -> usize
     ensures longest { result ≡ digits_len bytes.now }
     ensures within { result ≤ length bytes.now }
 {
-    let mut len = 0;
-    for &byte in bytes {
-        if !byte.is_ascii_digit() {
-            break;
-        }
-        len += 1;
-    }
-    len
+    bytes
+        .iter()
+        .take_while(|byte| byte.is_ascii_digit())
+        .count()
 }
 
 fn word_bytes_len(bytes: &[u8]) -> usize
     ensures longest { result ≡ prefix_len is_word_byte bytes.now }
     ensures within { result ≤ length bytes.now }
 {
-    let mut len = 0;
-    for &byte in bytes {
-        if !is_word_byte(byte) {
-            break;
-        }
-        len += 1;
-    }
-    len
+    bytes.iter().take_while(|byte| is_word_byte(**byte)).count()
 }
 
 fn name_bytes_len(bytes: &[u8]) -> usize
     ensures longest { result ≡ prefix_len is_name_byte bytes.now }
     ensures within { result ≤ length bytes.now }
 {
-    let mut len = 0;
-    for &byte in bytes {
-        if !is_name_byte(byte) {
-            break;
-        }
-        len += 1;
-    }
-    len
+    bytes.iter().take_while(|byte| is_name_byte(**byte)).count()
 }
 
 fn unquoted_len(bytes: &[u8]) -> usize
     ensures longest { result ≡ prefix_len is_unquoted bytes.now }
     ensures within { result ≤ length bytes.now }
 {
-    let mut len = 0;
-    for &byte in bytes {
-        if byte == b'"' {
-            break;
-        }
-        len += 1;
-    }
-    len
+    bytes.iter().take_while(|byte| **byte != b'"').count()
 }
 
 fn word_len(bytes: &[u8]) -> usize

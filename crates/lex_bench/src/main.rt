@@ -1,0 +1,62 @@
+//! A benchmark of `ir_lex`: the program cuts each line of a file into tokens, or copies the file's bytes one
+//! by one, and prints how many tokens or bytes there were. Its words are the file's name and, for the copy,
+//! `copy`. `bench/lex.sh` compares the times of both.
+#![tactic(auto)]
+
+ghost use Rattle.std.specs.Prelude.{◌≡◌, ◌≤◌, IfOk, length};
+
+use haft_io::{FileInputs, Which, read_whole};
+use ir_lex::{LexError, lex_line, split_line};
+use std::alloc::{AllocError, Global};
+use std::rt::{Env, Files};
+use std::{env, io};
+
+/// A text has at most this many bytes.
+const LIMIT: usize = 4_194_304;
+
+/// How many tokens stand on the lines of a text.
+fn token_count(alloc: Global, text: &[u8]) -> Result<usize, LexError>
+    requires { length text.now ≤ 4194304 }
+{
+    let mut count: usize = 0;
+    let mut left = text;
+    'lines: while let Some((line, rest)) = split_line(left) {
+        count = count.saturating_add(lex_line(alloc, line)?.len());
+        left = rest;
+    }
+    Ok(count)
+}
+
+/// How many bytes a copy of the text has that is made byte by byte.
+fn copied_count(alloc: Global, text: &[u8]) -> Result<usize, AllocError>
+    ensures { IfOk result (λ count. count ≡ length text.now) }
+{
+    let mut copy = Vec::new(alloc);
+    for byte in text {
+        copy.push(*byte)?;
+    }
+    Ok(copy.len())
+}
+
+/// What the words ask for; nothing where a file can't be read, a line has a bad byte or memory runs out.
+fn count<'a, R: Files + AllocGlobal>(rt: &'a R, words: &'a [String]) -> Option<usize> {
+    let name = words.first().map(|word| word.as_str());
+    let mut inputs = FileInputs::new(rt, name, None);
+    let text = read_whole(rt.alloc(), &mut inputs, Which::First, LIMIT).ok()?;
+    match words.get(1) {
+        Some(word) if word.as_str() == "copy" => copied_count(rt.alloc(), &text).ok(),
+        _ => token_count(rt.alloc(), &text).ok(),
+    }
+}
+
+/// The words after the program's name.
+fn words<R: Env + AllocGlobal>(rt: &R) -> io::Result<Vec<String>> {
+    Ok(env::args(rt)?.skip(1).collect(rt.alloc())?)
+}
+
+fn main(rt: HostRuntime) -> io::Result<()> {
+    match count(&rt, &words(&rt)?) {
+        Some(count) => println!(rt; "{count}"),
+        None => println!(rt; "no count"),
+    }
+}
