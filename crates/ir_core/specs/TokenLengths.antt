@@ -1,6 +1,6 @@
 -- How tokens are found at the front of bytes: the length of the longest of each kind, 0 where there is
 -- none. `Tokens` says what is meant; no clause that a reader of lines relies on cites what stands here.
-use Rattle.std.specs.Prelude.{ℕ, ◌+◌, ◌==◌, ◌&&◌, nat_lt, if◌then◌else◌, Bool, false, List, [], ◌∷◌, length, drop, fold}
+use Rattle.std.specs.Prelude.{ℕ, ◌+◌, ◌==◌, ◌&&◌, nat_lt, if◌then◌else◌, Bool, false, List, [], ◌∷◌, length, take, drop, fold}
 use Rattle.std.specs.List.{prefix_len}
 use Rattle.ir_core.specs.declared.text.TokKind.{TokKind}
 use Rattle.ir_core.specs.declared.text.TokKind.TheVariants.{Word, Local, At, Label, Num, Bytes, Str, Hash, Bang, Punct}
@@ -13,6 +13,10 @@ word_len (b ∷ bytes) = if begins_word b then 1 + prefix_len is_word_byte bytes
 abbrev pub name_len : List ℕ → ℕ
 name_len [] = 0
 name_len (b ∷ bytes) = if begins_name b then 1 + prefix_len is_name_byte bytes else prefix_len is_digit (b ∷ bytes)
+
+-- the longest name that begins at a place of the text
+abbrev pub name_from : List ℕ → ℕ → List ℕ
+name_from text at = take (name_len (drop at text)) (drop at text)
 
 abbrev pub digits_len : List ℕ → ℕ
 digits_len bytes = prefix_len is_digit bytes

@@ -2,7 +2,7 @@
 ghost use Rattle.std.specs.Prelude.{◌≡◌, ◌+◌, ◌≤◌, ◌<◌, ◌^◌, length};
 ghost use Rattle.std.specs.List.{prefix_len};
 ghost use Rattle.ir_core.specs.Tokens.{is_digit, is_blank, is_letter, begins_word, is_word_byte, begins_name, is_name_byte, is_punct, is_unquoted};
-ghost use Rattle.ir_core.specs.TokenLengths.{word_len, name_len, digits_len, counted, marked_len, label_len, num_len, closed_len, str_len, bytes_len, punct_len, longer, longest_of};
+ghost use Rattle.ir_core.specs.TokenLengths.{word_len, name_len, digits_len, counted, marked_len, label_len, name_from, num_len, closed_len, str_len, bytes_len, punct_len, longer, longest_of};
 
 use ir_core::TokKind;
 
@@ -129,6 +129,15 @@ pub(crate) fn name_len(bytes: &[u8]) -> usize
         [first, rest @ ..] if begins_name(*first) => 1 + name_bytes_len(rest),
         _ => digits_len(bytes),
     }
+}
+
+/// The longest name that begins at a place of the text; empty where none begins there.
+pub fn name_from(text: &[u8], at: usize) -> &[u8]
+    requires { at ≤ length text.now }
+    ensures { result.now ≡ name_from text.now at }
+{
+    let rest = &text[at..];
+    &rest[..name_len(rest)]
 }
 
 fn counted(len: usize) -> usize

@@ -12,4 +12,5 @@ mod lex;
 
 pub use dropped::is_dropped;
 pub use ir_core::{TokKind, Token};
+pub use lengths::name_from;
 pub use lex::{LexError, lex_line};
