@@ -1,0 +1,61 @@
+//! The numbers of the names in a text.
+ghost use Rattle.std.specs.Prelude.{◌≡◌, ◌≤◌, length};
+ghost use Rattle.ir_core.specs.Names.{number_given};
+ghost use Rattle.ir_core.specs.TokenLengths.{name_from};
+ghost use Rattle.ir_numbering.specs.Renaming.{renamed_loc, renamed_type_id, renamed_sym};
+ghost use Rattle.ir_numbering.specs.Numbers.{renaming_of};
+
+use ir_core::{Func, Loc, Module, Sym, TypeId};
+use ir_lex::name_from;
+
+/// A text and the tables that number its names: those of a module, and of one of its functions.
+#[derive(Clone, Copy)]
+pub struct Numbers<'a> {
+    pub text: &'a [u8],
+    pub module: &'a Module,
+    pub func: &'a Func,
+}
+
+/// The longest name at a place; empty past the end of the text.
+pub(crate) fn name_at(text: &[u8], at: u32) -> &[u8]
+    ensures { result.now ≡ name_from text.now at }
+{
+    let at = at as usize;
+    if at <= text.len() {
+        name_from(text, at)
+    } else {
+        &[]
+    }
+}
+
+impl Numbers<'_> {
+    /// The number of the register or the label that is named at a place.
+    pub fn loc(&self, at: Loc) -> Loc
+        ensures { result ≡ renamed_loc (renaming_of self.now.text.now self.now.module.now self.now.func.now) at }
+    {
+        match self.func.find_loc(name_at(self.text, at.0)) {
+            Some(found) => found,
+            None => Loc(self.func.loc_count()),
+        }
+    }
+
+    /// The number of the type that is named at a place.
+    pub fn type_id(&self, at: TypeId) -> TypeId
+        ensures { result ≡ renamed_type_id (renaming_of self.now.text.now self.now.module.now self.now.func.now) at }
+    {
+        match self.module.find_type(name_at(self.text, at.0)) {
+            Some(found) => found,
+            None => TypeId(self.module.type_count()),
+        }
+    }
+
+    /// The number of the `@` name at a place.
+    pub fn sym(&self, at: Sym) -> Sym
+        ensures { result ≡ renamed_sym (renaming_of self.now.text.now self.now.module.now self.now.func.now) at }
+    {
+        match self.module.find_sym(name_at(self.text, at.0)) {
+            Some(found) => found,
+            None => Sym(self.module.sym_count()),
+        }
+    }
+}
