@@ -30,6 +30,7 @@ pub(crate) fn name_at(text: &[u8], at: u32) -> &[u8]
 
 impl Numbers<'_> {
     /// The number of the register or the label that is named at a place.
+    #[tactic(auto, using(crate::proofs::Lacking::next_number))]
     pub fn loc(&self, at: Loc) -> Loc
         ensures { result ≡ renamed_loc (renaming_of self.now.text.now self.now.module.now self.now.func.now) at }
     {
@@ -40,6 +41,7 @@ impl Numbers<'_> {
     }
 
     /// The number of the type that is named at a place.
+    #[tactic(auto, using(crate::proofs::Lacking::next_number))]
     pub fn type_id(&self, at: TypeId) -> TypeId
         ensures { result ≡ renamed_type_id (renaming_of self.now.text.now self.now.module.now self.now.func.now) at }
     {
@@ -50,6 +52,7 @@ impl Numbers<'_> {
     }
 
     /// The number of the `@` name at a place.
+    #[tactic(auto, using(crate::proofs::Lacking::next_number))]
     pub fn sym(&self, at: Sym) -> Sym
         ensures { result ≡ renamed_sym (renaming_of self.now.text.now self.now.module.now self.now.func.now) at }
     {

@@ -9,7 +9,7 @@ ghost use Rattle.ir_numbering.specs.Renaming.{renamed_loc, renamed_type_id, rena
 ghost use Rattle.ir_numbering.specs.Numbers.{renaming_of};
 
 use crate::{Numbers, Place, Places};
-use ir_core::{Boxed, ConstGep, Loc, Seq, Sym, Ty, TypeId, Val, Width};
+use ir_core::{Boxed, ConstGep, Copied, Loc, Seq, Sym, Ty, TypeId, Val, Width};
 use std::alloc::{AllocError, Global};
 
 /// A tree in which names stand, each told by the place where it begins.
@@ -211,7 +211,8 @@ impl Numbered for ConstGep {
     }
 
     fn renamed(&self, numbers: &Numbers<'_>, alloc: Global) -> Result<ConstGep, AllocError> {
-        let (base, index) = renamed_both(&self.base, &self.index, numbers, alloc)?;
+        let base = self.base.renamed(numbers, alloc)?;
+        let (base, index) = paired(base, self.index.copy(alloc))?;
         Ok(ConstGep {
             base,
             sym: numbers.sym(self.sym),
