@@ -1,9 +1,11 @@
 //! From places to numbers: the second step of the reader of module text.
 #![tactic(auto)]
 
+mod instructions;
 mod numbers;
 mod places;
 mod trees;
+mod values;
 
 pub use numbers::Numbers;
 pub use places::{Place, Places};

@@ -3,13 +3,13 @@ ghost use Rattle.std.specs.Prelude.{◌≡◌, ◌++◌, [], ◌∷◌, List, ma
 ghost use Rattle.std.specs.List.{flat_map};
 ghost use Rattle.ir_numbering.specs.declared.places.Place as place;
 ghost use Rattle.ir_numbering.specs.declared.places.Place.TheVariants as kinds;
-ghost use Rattle.ir_numbering.specs.Places.{places_of_ty, places_of_gep, places_of_val};
+ghost use Rattle.ir_numbering.specs.Places.{places_of_option};
 ghost use Rattle.ir_numbering.specs.Renaming as renaming;
-ghost use Rattle.ir_numbering.specs.Renaming.{renamed_loc, renamed_type_id, renamed_sym, renamed_ty, renamed_gep, renamed_val};
+ghost use Rattle.ir_numbering.specs.Renaming.{renamed_loc, renamed_type_id, renamed_sym, renamed_option};
 ghost use Rattle.ir_numbering.specs.Numbers.{renaming_of};
 
 use crate::{Numbers, Place, Places};
-use ir_core::{Boxed, ConstGep, Copied, Loc, Seq, Sym, Ty, TypeId, Val, Width};
+use ir_core::{Loc, Seq, Sym, TypeId, Width};
 use std::alloc::{AllocError, Global};
 
 /// A tree in which names stand, each told by the place where it begins.
@@ -32,7 +32,7 @@ pub trait Numbered: Sized {
 }
 
 // Two trees with the numbers of their names.
-fn renamed_both<A: Numbered + Drop, B: Numbered>(
+pub(crate) fn renamed_both<A: Numbered + Drop, B: Numbered>(
     a: &A,
     b: &B,
     numbers: &Numbers<'_>,
@@ -47,11 +47,112 @@ fn renamed_both<A: Numbered + Drop, B: Numbered>(
 }
 
 // The pair of a value and of one that may have found no memory. The first is then dropped.
-fn paired<A: Drop, B>(first: A, second: Result<B, AllocError>) -> Result<(A, B), AllocError>
+pub(crate) fn paired<A: Drop, B>(first: A, second: Result<B, AllocError>) -> Result<(A, B), AllocError>
     ensures { IfOk result (λ pair. (pair.0 ≡ first) × (second ≡ Ok pair.1)) }
 {
     let second = second?;
     Ok((first, second))
+}
+
+// Three trees with the numbers of their names.
+pub(crate) fn renamed_three<A: Numbered + Drop, B: Numbered + Drop, C: Numbered>(
+    a: &A,
+    b: &B,
+    c: &C,
+    numbers: &Numbers<'_>,
+    alloc: Global,
+) -> Result<(A, B, C), AllocError>
+    ensures { IfOk result (λ trees.
+        let r = renaming_of numbers.now.text.now numbers.now.module.now numbers.now.func.now in
+        (trees.0 ≡ A.renamed_by r a.now) × (trees.1 ≡ B.renamed_by r b.now) × (trees.2 ≡ C.renamed_by r c.now)) }
+{
+    let (first, second) = renamed_both(a, b, numbers, alloc)?;
+    let third = c.renamed(numbers, alloc)?;
+    Ok((first, second, third))
+}
+
+// Four trees with the numbers of their names.
+pub(crate) fn renamed_four<
+    A: Numbered + Drop,
+    B: Numbered + Drop,
+    C: Numbered + Drop,
+    D: Numbered,
+>(
+    a: &A,
+    b: &B,
+    c: &C,
+    d: &D,
+    numbers: &Numbers<'_>,
+    alloc: Global,
+) -> Result<(A, B, C, D), AllocError>
+    ensures { IfOk result (λ trees.
+        let r = renaming_of numbers.now.text.now numbers.now.module.now numbers.now.func.now in
+        (trees.0 ≡ A.renamed_by r a.now)
+        × (trees.1 ≡ B.renamed_by r b.now)
+        × (trees.2 ≡ C.renamed_by r c.now)
+        × (trees.3 ≡ D.renamed_by r d.now)) }
+{
+    let (first, second, third) = renamed_three(a, b, c, numbers, alloc)?;
+    let fourth = d.renamed(numbers, alloc)?;
+    Ok((first, second, third, fourth))
+}
+
+// Adds the places of two trees.
+pub(crate) fn add_two<A: Numbered, B: Numbered>(
+    a: &A,
+    b: &B,
+    list: &mut Places,
+) -> Result<(), AllocError>
+    ensures { OnOk result (list.new ≡ list.old ++ (A.places a.now ++ B.places b.now)) }
+{
+    a.add_places(list)?;
+    b.add_places(list)
+}
+
+// Adds the places of three trees.
+pub(crate) fn add_three<A: Numbered, B: Numbered, C: Numbered>(
+    a: &A,
+    b: &B,
+    c: &C,
+    list: &mut Places,
+) -> Result<(), AllocError>
+    ensures { OnOk result (list.new ≡ list.old ++ (A.places a.now ++ B.places b.now ++ C.places c.now)) }
+{
+    add_two(a, b, list)?;
+    c.add_places(list)
+}
+
+// Adds the places of four trees.
+pub(crate) fn add_four<A: Numbered, B: Numbered, C: Numbered, D: Numbered>(
+    a: &A,
+    b: &B,
+    c: &C,
+    d: &D,
+    list: &mut Places,
+) -> Result<(), AllocError>
+    ensures { OnOk result
+        (list.new ≡ list.old ++ (A.places a.now ++ B.places b.now ++ C.places c.now ++ D.places d.now)) }
+{
+    add_three(a, b, c, list)?;
+    d.add_places(list)
+}
+
+// Adds the places of five trees.
+pub(crate) fn add_five<A: Numbered, B: Numbered, C: Numbered, D: Numbered, E: Numbered>(
+    a: &A,
+    b: &B,
+    c: &C,
+    d: &D,
+    e: &E,
+    list: &mut Places,
+) -> Result<(), AllocError>
+    ensures { OnOk result
+        (list.new
+        ≡ list.old
+        ++ (A.places a.now ++ B.places b.now ++ C.places c.now ++ D.places d.now ++ E.places e.now)) }
+{
+    add_four(a, b, c, d, list)?;
+    e.add_places(list)
 }
 
 impl Numbered for u64 {
@@ -130,8 +231,7 @@ impl<A: Numbered + Drop, B: Numbered> Numbered for (A, B) {
     ghost renamed_by = { λ r p. (A.renamed_by r p.0, B.renamed_by r p.1) };
 
     fn add_places(&self, list: &mut Places) -> Result<(), AllocError> {
-        self.0.add_places(list)?;
-        self.1.add_places(list)
+        add_two(&self.0, &self.1, list)
     }
 
     fn renamed(&self, numbers: &Numbers<'_>, alloc: Global) -> Result<(A, B), AllocError> {
@@ -160,88 +260,22 @@ impl<T: Numbered + Drop> Numbered for Seq<T> {
     }
 }
 
-impl Numbered for Ty {
-    ghost places = { places_of_ty };
+impl<T: Numbered> Numbered for Option<T> {
+    ghost places = { places_of_option T.places };
 
-    ghost renamed_by = { renamed_ty };
-
-    fn add_places(&self, list: &mut Places) -> Result<(), AllocError> {
-        match self {
-            Ty::Void | Ty::Int(_) | Ty::Ptr => Ok(()),
-            Ty::Array(_, element) => element.get().add_places(list),
-            Ty::Struct(parts) => {
-                for part in parts.items() {
-                    part.add_places(list)?;
-                }
-                Ok(())
-            }
-            Ty::Named(id) => id.add_places(list),
-        }
-    }
-
-    fn renamed(&self, numbers: &Numbers<'_>, alloc: Global) -> Result<Ty, AllocError> {
-        match self {
-            Ty::Void => Ok(Ty::Void),
-            Ty::Int(width) => Ok(Ty::Int(*width)),
-            Ty::Ptr => Ok(Ty::Ptr),
-            Ty::Array(count, element) => {
-                let copy = element.get().renamed(numbers, alloc)?;
-                Ok(Ty::Array(*count, Boxed::new(alloc, copy)?))
-            }
-            Ty::Struct(parts) => {
-                let mut copies = Seq::new(alloc);
-                for part in parts.items() {
-                    copies.push(part.renamed(numbers, alloc)?)?;
-                }
-                Ok(Ty::Struct(copies))
-            }
-            Ty::Named(id) => Ok(Ty::Named(numbers.type_id(*id))),
-        }
-    }
-}
-
-impl Numbered for ConstGep {
-    ghost places = { places_of_gep };
-
-    ghost renamed_by = { renamed_gep };
-
-    fn add_places(&self, list: &mut Places) -> Result<(), AllocError> {
-        self.base.add_places(list)?;
-        self.sym.add_places(list)
-    }
-
-    fn renamed(&self, numbers: &Numbers<'_>, alloc: Global) -> Result<ConstGep, AllocError> {
-        let base = self.base.renamed(numbers, alloc)?;
-        let (base, index) = paired(base, self.index.copy(alloc))?;
-        Ok(ConstGep {
-            base,
-            sym: numbers.sym(self.sym),
-            index,
-        })
-    }
-}
-
-impl Numbered for Val {
-    ghost places = { places_of_val };
-
-    ghost renamed_by = { renamed_val };
+    ghost renamed_by = { λ r. renamed_option (T.renamed_by r) };
 
     fn add_places(&self, list: &mut Places) -> Result<(), AllocError> {
         match self {
-            Val::Reg(at) => at.add_places(list),
-            Val::Int(_) | Val::Null => Ok(()),
-            Val::Global(sym) => sym.add_places(list),
-            Val::Gep(gep) => gep.add_places(list),
+            None => Ok(()),
+            Some(tree) => tree.add_places(list),
         }
     }
 
-    fn renamed(&self, numbers: &Numbers<'_>, alloc: Global) -> Result<Val, AllocError> {
+    fn renamed(&self, numbers: &Numbers<'_>, alloc: Global) -> Result<Option<T>, AllocError> {
         match self {
-            Val::Reg(at) => Ok(Val::Reg(numbers.loc(*at))),
-            Val::Int(word) => Ok(Val::Int(*word)),
-            Val::Null => Ok(Val::Null),
-            Val::Global(sym) => Ok(Val::Global(numbers.sym(*sym))),
-            Val::Gep(gep) => Ok(Val::Gep(gep.renamed(numbers, alloc)?)),
+            None => Ok(None),
+            Some(tree) => Ok(Some(tree.renamed(numbers, alloc)?)),
         }
     }
 }

@@ -1,7 +1,7 @@
 use Rattle.std.proofs.Common.{◌≡◌, map, take}
 use Rattle.ir_numbering.specs.Numbers.{renaming_of}
 use Rattle.ir_numbering.specs.Renaming.{renamed_ty}
-use Rattle.ir_numbering.proofs.trees.TyNumbered.+renamed.Given as goal
+use Rattle.ir_numbering.proofs.values.TyNumbered.+renamed.Given as goal
 
 abbrev pub invariant-loop-part : goal.invariant-loop-part
 invariant-loop-part l = l.copies ≡ map (renamed_ty (renaming_of l.numbers.text.now l.numbers.module.now l.numbers.func.now)) (take l.part-index l.part-items)
