@@ -1,1 +1,4 @@
 pub mod Lacking
+pub mod Tables
+pub mod Kept
+pub mod Results

@@ -1,5 +1,5 @@
 -- Name tables over a text: the tables once they have the names at places, and what becomes of places.
-use Rattle.std.specs.Prelude.{ℕ, List, [], ◌∷◌, fold}
+use Rattle.std.specs.Prelude.{ℕ, ◌≡◌, ◌+◌, ◌<◌, List, [], ◌∷◌, length, take, fold}
 use Rattle.ir_core.specs.Module.{ModuleParts, FuncParts}
 use Rattle.ir_core.specs.Names.{number_given, numbered}
 use Rattle.ir_core.specs.TokenLengths.{name_from}
@@ -41,6 +41,18 @@ module_with text places m = record m { syms = with_names m.syms (globals_at text
 -- a function once it has the names at the places
 abbrev pub func_with : List ℕ → List Place → FuncParts → FuncParts
 func_with text places f = record f { names = with_names f.names (locals_at text places) }
+
+-- The names at a front of the places have joined the tables, and nothing else changed.
+pub record HasFront (text : List ℕ) (places : List Place) (m : ModuleParts) (f : FuncParts) (m' : ModuleParts) (f' : FuncParts) : Type 0 where
+  pub count : ℕ
+  pub in_module : m' ≡ module_with text (take count places) m
+  pub in_func : f' ≡ func_with text (take count places) f
+
+-- each table has room for so many names more
+pub record HasRoom (count : ℕ) (m : ModuleParts) (f : FuncParts) : Type 0 where
+  pub syms : length m.syms + count < 4294967295
+  pub type_names : length m.type_names + count < 4294967295
+  pub names : length f.names + count < 4294967295
 
 -- ---- what becomes of places
 

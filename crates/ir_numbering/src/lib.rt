@@ -7,6 +7,6 @@ mod places;
 mod trees;
 mod values;
 
-pub use numbers::Numbers;
+pub use numbers::{Numbers, add_names, has_room, number_places, numbered, places_of};
 pub use places::{Place, Places};
 pub use trees::Numbered;

@@ -28,7 +28,7 @@ pub trait Numbered: Sized {
     fn renamed(&self, numbers: &Numbers<'_>, alloc: Global) -> Result<Self, AllocError>
         ensures { IfOk result (λ tree.
             tree
-            ≡ renamed_by (renaming_of numbers.now.text.now numbers.now.module.now numbers.now.func.now) self.now) };
+            ≡ renamed_by (renaming_of numbers.now.text.now numbers.now.in_module.now numbers.now.in_func.now) self.now) };
 }
 
 // Two trees with the numbers of their names.
@@ -39,7 +39,7 @@ pub(crate) fn renamed_both<A: Numbered + Drop, B: Numbered>(
     alloc: Global,
 ) -> Result<(A, B), AllocError>
     ensures { IfOk result (λ trees.
-        let r = renaming_of numbers.now.text.now numbers.now.module.now numbers.now.func.now in
+        let r = renaming_of numbers.now.text.now numbers.now.in_module.now numbers.now.in_func.now in
         (trees.0 ≡ A.renamed_by r a.now) × (trees.1 ≡ B.renamed_by r b.now)) }
 {
     let first = a.renamed(numbers, alloc)?;
@@ -63,7 +63,7 @@ pub(crate) fn renamed_three<A: Numbered + Drop, B: Numbered + Drop, C: Numbered>
     alloc: Global,
 ) -> Result<(A, B, C), AllocError>
     ensures { IfOk result (λ trees.
-        let r = renaming_of numbers.now.text.now numbers.now.module.now numbers.now.func.now in
+        let r = renaming_of numbers.now.text.now numbers.now.in_module.now numbers.now.in_func.now in
         (trees.0 ≡ A.renamed_by r a.now) × (trees.1 ≡ B.renamed_by r b.now) × (trees.2 ≡ C.renamed_by r c.now)) }
 {
     let (first, second) = renamed_both(a, b, numbers, alloc)?;
@@ -86,7 +86,7 @@ pub(crate) fn renamed_four<
     alloc: Global,
 ) -> Result<(A, B, C, D), AllocError>
     ensures { IfOk result (λ trees.
-        let r = renaming_of numbers.now.text.now numbers.now.module.now numbers.now.func.now in
+        let r = renaming_of numbers.now.text.now numbers.now.in_module.now numbers.now.in_func.now in
         (trees.0 ≡ A.renamed_by r a.now)
         × (trees.1 ≡ B.renamed_by r b.now)
         × (trees.2 ≡ C.renamed_by r c.now)

@@ -10,4 +10,4 @@ abbrev seen : Renaming → List (Ty × Init) → List (Ty × Init)
 seen r parts = map (λ (part : Ty × Init). (renamed_ty r part.0, part.1)) (map (λ (part : Ty × Init). (part.0, renamed_init r part.1)) parts)
 
 abbrev pub invariant-loop-ty : goal.invariant-loop-ty
-invariant-loop-ty l = l.copies ≡ seen (renaming_of l.numbers.text.now l.numbers.module.now l.numbers.func.now) (take l.ty-index l.ty-items)
+invariant-loop-ty l = l.copies ≡ seen (renaming_of l.numbers.text.now l.numbers.in_module.now l.numbers.in_func.now) (take l.ty-index l.ty-items)

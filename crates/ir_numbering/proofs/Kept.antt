@@ -1,0 +1,59 @@
+-- Numbers are never given anew: a table that takes names keeps the numbers of the earlier ones, and each name has one then.
+use Rattle.std.proofs.Common.{◌≡◌, ℕ, ◌+◌, ◌<◌, ◌≤◌, ◌⊎◌, inl, inr, not, eqb, cond, Bool, true, false, if◌then◌else◌, List, [], ◌∷◌, ◌++◌, length, get_or, slice_get, Some, ap, sym, refl, ◌∙◌, subst, zero, suc, arith}
+use Rattle.std.proofs.lemmas.Bool.{cases_lt}
+use Rattle.std.proofs.lemmas.Bool.Decides.{nat_tests}
+use Rattle.std.proofs.lemmas.Cmp.{nat_list_eq_equiv}
+use Rattle.std.proofs.lemmas.List.Folds.{position_or_len_push}
+use Rattle.std.proofs.lemmas.List.Sums.{fails_before_first}
+use Rattle.std.proofs.lemmas.Option.{get_or_from_slice_get, slice_get_within}
+use Rattle.std.specs.List.{list_any, Contains, slice_index_or}
+use Rattle.std.specs.Str.{bytes_eq}
+use Rattle.ir_core.specs.Names.{number_given, numbered}
+use Rattle.ir_core.proofs.Numbering.{length-numbered, slice_get-numbered}
+use Rattle.ir_numbering.specs.Numbers.{with_names}
+
+-- one name more
+number_given-numbered : (table : List (List ℕ)) (other name : List ℕ) → number_given table name < length table → number_given (numbered table other) name ≡ number_given table name
+number_given-numbered table other name h = by (list_any (bytes_eq other) table)
+  where
+    by : (b : Bool) → number_given (if b then table else table ++ other ∷ []) name ≡ number_given table name
+    by true = refl
+    by false =
+        let later : eqb (number_given table name) (length table) ≡ false = grind (arith, nat_tests) in
+        position_or_len_push (bytes_eq name) table other ∙ ap (λ b. cond b (length table + cond (bytes_eq name other) 0 1) (number_given table name)) later
+
+pub number_given-with_names : (table names : List (List ℕ)) (name : List ℕ) → number_given table name < length table → number_given (with_names table names) name ≡ number_given table name
+unfolding with_names
+number_given-with_names table [] name h = refl
+number_given-with_names table (other ∷ names) name h =
+    let here = number_given-numbered table other name h in
+    let within : number_given (numbered table other) name < length (numbered table other) = omega (arith, here, (length-numbered table other).0) in
+    number_given-with_names (numbered table other) names name within ∙ here
+
+pub length-with_names-ge : (table names : List (List ℕ)) → length table ≤ length (with_names table names)
+unfolding with_names
+length-with_names-ge table [] = omega arith
+length-with_names-ge table (name ∷ names) = omega (arith, length-with_names-ge (numbered table name) names, (length-numbered table name).0)
+
+-- the name that a table takes has a number in it
+number_given-own : (table : List (List ℕ)) (name : List ℕ) → number_given (numbered table name) name < length (numbered table name)
+number_given-own table name =
+    let at = slice_get-numbered table name in
+    let within = slice_get_within (numbered table name) (number_given table name) name at in
+    let same = get_or_from_slice_get (numbered table name) (number_given table name) name [] at in
+    let passes : bytes_eq name (get_or (numbered table name) (number_given table name) []) ≡ true = ap (bytes_eq name) same ∙ nat_list_eq_equiv.refl name in
+    by passes within (cases_lt (number_given table name) (number_given (numbered table name) name))
+  where
+    by : bytes_eq name (get_or (numbered table name) (number_given table name) []) ≡ true → number_given table name < length (numbered table name) → (number_given table name < number_given (numbered table name) name) ⊎ (number_given (numbered table name) name ≤ number_given table name) → number_given (numbered table name) name < length (numbered table name)
+    by passes within (inl h) = let fails = fails_before_first (bytes_eq name) (numbered table name) (number_given table name) [] h in absurd cc
+    by passes within (inr h) = omega arith
+
+pub number_given-taken : (table names : List (List ℕ)) (name : List ℕ) → Contains names name → number_given (with_names table names) name < length (with_names table names)
+unfolding with_names
+number_given-taken table [] name (k, h, e) = absurd (omega arith)
+number_given-taken table (other ∷ names) name (zero, h, e) =
+    let own = number_given-own table other in
+    let kept = number_given-with_names (numbered table other) names other own in
+    let taken : number_given (with_names (numbered table other) names) other < length (with_names (numbered table other) names) = omega (arith, kept, length-with_names-ge (numbered table other) names) in
+    subst (λ n. number_given (with_names (numbered table other) names) n < length (with_names (numbered table other) names)) e taken
+number_given-taken table (other ∷ names) name (suc k, h, e) = number_given-taken (numbered table other) names name (k, omega arith, e)
