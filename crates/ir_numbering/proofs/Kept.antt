@@ -10,7 +10,15 @@ use Rattle.std.specs.List.{list_any, Contains, slice_index_or}
 use Rattle.std.specs.Str.{bytes_eq}
 use Rattle.ir_core.specs.Names.{number_given, numbered}
 use Rattle.ir_core.proofs.Numbering.{length-numbered, slice_get-numbered}
-use Rattle.ir_numbering.specs.Numbers.{with_names}
+use Rattle.ir_core.specs.Module.{ModuleParts, FuncParts}
+use Rattle.ir_core.specs.TokenLengths.{name_from}
+use Rattle.ir_core.specs.declared.types.Loc.{Loc}
+use Rattle.ir_core.specs.declared.types.TypeId.{TypeId}
+use Rattle.ir_core.specs.declared.types.Sym.{Sym}
+use Rattle.ir_numbering.specs.declared.places.Place.{Place}
+use Rattle.ir_numbering.specs.declared.places.Place.TheVariants.{Local, Struct, Global}
+use Rattle.ir_numbering.specs.Numbers.{with_names, locals_at, structs_at, globals_at, module_with, func_with}
+use Rattle.ir_numbering.specs.Laws.{HasNumber}
 
 -- one name more
 number_given-numbered : (table : List (List ℕ)) (other name : List ℕ) → number_given table name < length table → number_given (numbered table other) name ≡ number_given table name
@@ -57,3 +65,37 @@ number_given-taken table (other ∷ names) name (zero, h, e) =
     let taken : number_given (with_names (numbered table other) names) other < length (with_names (numbered table other) names) = omega (arith, kept, length-with_names-ge (numbered table other) names) in
     subst (λ n. number_given (with_names (numbered table other) names) n < length (with_names (numbered table other) names)) e taken
 number_given-taken table (other ∷ names) name (suc k, h, e) = number_given-taken (numbered table other) names name (k, omega arith, e)
+
+-- ---- a place of a kind stands for one of the names of that kind
+
+local_is : (text : List ℕ) (places : List Place) (at : Loc) → Contains places (Local at) → Contains (locals_at text places) (name_from text at.0)
+local_is text [] at (k, h, e) = absurd (omega arith)
+local_is text (Local own ∷ places) at (zero, h, e) = let same : own ≡ at = cc in (0, omega arith, ap (λ (l : Loc). name_from text l.0) same)
+local_is text (Struct own ∷ places) at (zero, h, e) = absurd cc
+local_is text (Global own ∷ places) at (zero, h, e) = absurd cc
+local_is text (Local own ∷ places) at (suc k, h, e) = let rest = local_is text places at (k, omega arith, e) in (suc rest.0, omega (arith, rest.1), rest.2)
+local_is text (Struct own ∷ places) at (suc k, h, e) = local_is text places at (k, omega arith, e)
+local_is text (Global own ∷ places) at (suc k, h, e) = local_is text places at (k, omega arith, e)
+
+struct_is : (text : List ℕ) (places : List Place) (at : TypeId) → Contains places (Struct at) → Contains (structs_at text places) (name_from text at.0)
+struct_is text [] at (k, h, e) = absurd (omega arith)
+struct_is text (Struct own ∷ places) at (zero, h, e) = let same : own ≡ at = cc in (0, omega arith, ap (λ (l : TypeId). name_from text l.0) same)
+struct_is text (Local own ∷ places) at (zero, h, e) = absurd cc
+struct_is text (Global own ∷ places) at (zero, h, e) = absurd cc
+struct_is text (Struct own ∷ places) at (suc k, h, e) = let rest = struct_is text places at (k, omega arith, e) in (suc rest.0, omega (arith, rest.1), rest.2)
+struct_is text (Local own ∷ places) at (suc k, h, e) = struct_is text places at (k, omega arith, e)
+struct_is text (Global own ∷ places) at (suc k, h, e) = struct_is text places at (k, omega arith, e)
+
+global_is : (text : List ℕ) (places : List Place) (at : Sym) → Contains places (Global at) → Contains (globals_at text places) (name_from text at.0)
+global_is text [] at (k, h, e) = absurd (omega arith)
+global_is text (Global own ∷ places) at (zero, h, e) = let same : own ≡ at = cc in (0, omega arith, ap (λ (l : Sym). name_from text l.0) same)
+global_is text (Local own ∷ places) at (zero, h, e) = absurd cc
+global_is text (Struct own ∷ places) at (zero, h, e) = absurd cc
+global_is text (Global own ∷ places) at (suc k, h, e) = let rest = global_is text places at (k, omega arith, e) in (suc rest.0, omega (arith, rest.1), rest.2)
+global_is text (Local own ∷ places) at (suc k, h, e) = global_is text places at (k, omega arith, e)
+global_is text (Struct own ∷ places) at (suc k, h, e) = global_is text places at (k, omega arith, e)
+
+pub HasNumber-with : (text : List ℕ) (places : List Place) (m : ModuleParts) (f : FuncParts) (place : Place) → Contains places place → HasNumber text (module_with text places m) (func_with text places f) place
+HasNumber-with text places m f (Local at) has = number_given-taken f.names (locals_at text places) (name_from text at.0) (local_is text places at has)
+HasNumber-with text places m f (Struct at) has = number_given-taken m.type_names (structs_at text places) (name_from text at.0) (struct_is text places at has)
+HasNumber-with text places m f (Global at) has = number_given-taken m.syms (globals_at text places) (name_from text at.0) (global_is text places at has)

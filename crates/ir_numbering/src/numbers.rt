@@ -129,7 +129,8 @@ pub fn number_places(
 }
 
 /// Numbers the names of a tree in the order in which its line writes them.
-/// For want of memory some of the names may have joined the tables, and nothing else has changed.
+/// For want of memory, which includes a table without room for 4,294,967,295 names, some of the names may
+/// have joined the tables, and nothing else has changed.
 pub fn add_names<T: Numbered>(
     tree: &T,
     text: &[u8],
@@ -137,17 +138,21 @@ pub fn add_names<T: Numbered>(
     f: &mut Func,
     alloc: Global,
 ) -> Result<(), AllocError>
-    requires { HasRoom (length (T.places tree.now)) m.old f.old }
     ensures in_module { OnOk result (m.new ≡ module_with text.now (T.places tree.now) m.old) }
     ensures in_func { OnOk result (f.new ≡ func_with text.now (T.places tree.now) f.old) }
     ensures err { OnErr result (HasFront text.now (T.places tree.now) m.old f.old m.new f.new) }
 {
     let places = places_of(tree, alloc)?;
-    number_places(places.items(), text, m, f)
+    let places = places.items();
+    if !has_room(places.len(), m, f) {
+        return Err(AllocError);
+    }
+    number_places(places, text, m, f)
 }
 
 /// Numbers the names of a tree, and gives the tree with these numbers in place of their places.
-/// For want of memory some of the names may have joined the tables, and nothing else has changed.
+/// For want of memory, as in `add_names`, some of the names may have joined the tables, and nothing else
+/// has changed.
 pub fn numbered<T: Numbered>(
     tree: &T,
     text: &[u8],
@@ -155,7 +160,6 @@ pub fn numbered<T: Numbered>(
     f: &mut Func,
     alloc: Global,
 ) -> Result<T, AllocError>
-    requires { HasRoom (length (T.places tree.now)) m.old f.old }
     ensures tree { IfOk result (λ t. t ≡ T.renamed_by (renaming_of text.now m.new f.new) tree.now) }
     ensures in_module { OnOk result (m.new ≡ module_with text.now (T.places tree.now) m.old) }
     ensures in_func { OnOk result (f.new ≡ func_with text.now (T.places tree.now) f.old) }
