@@ -2,3 +2,4 @@ pub mod Lacking
 pub mod Tables
 pub mod Kept
 pub mod Results
+pub mod Filling

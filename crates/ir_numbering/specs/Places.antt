@@ -1,7 +1,7 @@
 -- The places of a tree: where the names begin that it mentions, in the order in which its line writes them.
 --
 -- Choices: one list for all kinds of names, so that one definition says the order of all three tables.
-use Rattle.std.specs.Prelude.{ℕ, List, [], ◌∷◌, ◌++◌, Option, Some, None}
+use Rattle.std.specs.Prelude.{ℕ, List, [], ◌∷◌, ◌++◌, map, Option, Some, None}
 use Rattle.std.specs.List.{flat_map}
 use Rattle.ir_core.specs.declared.types.Ty.{Ty, fold-Ty}
 use Rattle.ir_core.specs.declared.types.Ty.TheOpen.{Ty-F}
@@ -17,6 +17,7 @@ use Rattle.ir_core.specs.declared.values.Declare.{Declare}
 use Rattle.ir_core.specs.declared.instruction.Inst.{Inst}
 use Rattle.ir_core.specs.declared.instruction.Inst.TheVariants as insts
 use Rattle.ir_core.specs.declared.instruction.Block.{Block}
+use Rattle.ir_core.specs.Module.{FuncParts}
 use Rattle.ir_numbering.specs.declared.places.Place.{Place}
 use Rattle.ir_numbering.specs.declared.places.Place.TheVariants.{Local, Struct, Global}
 
@@ -104,3 +105,38 @@ places_of_global global = Global global.sym ∷ places_of_ty global.ty ++ places
 -- a declare is written with its result before its name
 abbrev pub places_of_declare : Declare → List Place
 places_of_declare declare = places_of_ty declare.ret ++ Global declare.sym ∷ [] ++ flat_map places_of_ty declare.params
+
+-- ---- functions
+
+-- the register that takes an instruction's result
+abbrev pub result_of : Inst → Option Loc
+result_of (insts.Bin dst op flags w a b) = Some dst
+result_of (insts.Cmp dst pred ty a b) = Some dst
+result_of (insts.Select dst cond ty a b) = Some dst
+result_of (insts.Cast dst op from a to) = Some dst
+result_of (insts.Gep dst base ptr index) = Some dst
+result_of (insts.Alloca dst ty) = Some dst
+result_of (insts.Load dst ty ptr atomic) = Some dst
+result_of (insts.Rmw dst op ptr ty val) = Some dst
+result_of (insts.CmpXchg dst ptr ty old new) = Some dst
+result_of (insts.Extract dst elem pair index) = Some dst
+result_of (insts.Call dst ret callee args) = dst
+result_of (insts.Phi dst ty arms) = Some dst
+result_of inst = None
+
+-- what a block defines: its label, and its results in order
+abbrev pub results_of_block : Block → List Place
+results_of_block block = Local block.label ∷ flat_map (λ inst. places_of_option (λ at. Local at ∷ []) (result_of inst)) block.insts
+
+-- what a function defines: its parameters, and then block by block
+abbrev pub definitions_of_func : FuncParts → List Place
+definitions_of_func f = map (λ param. Local param.1) f.params ++ flat_map results_of_block f.blocks
+
+-- what a function mentions, as written (LLVM Language Reference, 'Functions')
+abbrev pub mentions_of_func : FuncParts → List Place
+mentions_of_func f = places_of_ty f.ret ++ Global f.sym ∷ [] ++ flat_map (λ param. places_of_ty param.0 ++ Local param.1 ∷ []) f.params ++ flat_map places_of_block f.blocks
+
+-- A function's definitions stand before all that it mentions: so its registers and labels are numbered by their
+-- first definitions, and those that are nowhere defined by first sight.
+abbrev pub places_of_func : FuncParts → List Place
+places_of_func f = definitions_of_func f ++ mentions_of_func f

@@ -1,5 +1,5 @@
 -- What becomes of the numbers of a tree, and the tree with those in place of these.
-use Rattle.std.specs.Prelude.{ℕ, List, map, Option, Some, None}
+use Rattle.std.specs.Prelude.{ℕ, List, [], map, Option, Some, None}
 use Rattle.ir_core.specs.declared.types.Ty.{Ty, fold-Ty}
 use Rattle.ir_core.specs.declared.types.Ty.TheVariants as types
 use Rattle.ir_core.specs.declared.types.Ty.TheOpen.{Ty-F}
@@ -18,6 +18,7 @@ use Rattle.ir_core.specs.declared.values.Declare.{Declare}
 use Rattle.ir_core.specs.declared.instruction.Inst.{Inst}
 use Rattle.ir_core.specs.declared.instruction.Inst.TheVariants as insts
 use Rattle.ir_core.specs.declared.instruction.Block.{Block}
+use Rattle.ir_core.specs.Module.{FuncParts}
 
 -- what becomes of the number of a register or a label, of a type name, and of an `@` name
 pub record Renaming : Type 0 where
@@ -115,3 +116,16 @@ renamed_global r global = record { sym = renamed_sym r global.sym; ty = renamed_
 
 abbrev pub renamed_declare : Renaming → Declare → Declare
 renamed_declare r declare = record { sym = renamed_sym r declare.sym; ret = renamed_ty r declare.ret; params = map (renamed_ty r) declare.params }
+
+abbrev pub renamed_param : Renaming → Ty × Loc → Ty × Loc
+renamed_param r param = (renamed_ty r param.0, renamed_loc r param.1)
+
+-- a function without its name table, which numbers other places
+abbrev pub renamed_func : Renaming → FuncParts → FuncParts
+renamed_func r f = record {
+  sym = renamed_sym r f.sym;
+  ret = renamed_ty r f.ret;
+  params = map (renamed_param r) f.params;
+  blocks = map (renamed_block r) f.blocks;
+  names = [];
+}

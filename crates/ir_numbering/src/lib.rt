@@ -1,6 +1,7 @@
 //! From places to numbers: the second step of the reader of module text.
 #![tactic(auto)]
 
+mod functions;
 mod instructions;
 mod laws;
 mod numbers;

@@ -66,8 +66,8 @@ pub(crate) fn renamed_three<A: Numbered + Drop, B: Numbered + Drop, C: Numbered>
         let r = renaming_of numbers.now.text.now numbers.now.in_module.now numbers.now.in_func.now in
         (trees.0 ≡ A.renamed_by r a.now) × (trees.1 ≡ B.renamed_by r b.now) × (trees.2 ≡ C.renamed_by r c.now)) }
 {
-    let (first, second) = renamed_both(a, b, numbers, alloc)?;
-    let third = c.renamed(numbers, alloc)?;
+    let both = renamed_both(a, b, numbers, alloc)?;
+    let ((first, second), third) = paired(both, c.renamed(numbers, alloc))?;
     Ok((first, second, third))
 }
 
@@ -92,8 +92,8 @@ pub(crate) fn renamed_four<
         × (trees.2 ≡ C.renamed_by r c.now)
         × (trees.3 ≡ D.renamed_by r d.now)) }
 {
-    let (first, second, third) = renamed_three(a, b, c, numbers, alloc)?;
-    let fourth = d.renamed(numbers, alloc)?;
+    let three = renamed_three(a, b, c, numbers, alloc)?;
+    let ((first, second, third), fourth) = paired(three, d.renamed(numbers, alloc))?;
     Ok((first, second, third, fourth))
 }
 
@@ -153,6 +153,16 @@ pub(crate) fn add_five<A: Numbered, B: Numbered, C: Numbered, D: Numbered, E: Nu
 {
     add_four(a, b, c, d, list)?;
     e.add_places(list)
+}
+
+// Adds the places of trees in order.
+pub(crate) fn add_all<T: Numbered>(trees: &[T], list: &mut Places) -> Result<(), AllocError>
+    ensures { OnOk result (list.new ≡ list.old ++ flat_map T.places trees.now) }
+{
+    for tree in trees {
+        tree.add_places(list)?;
+    }
+    Ok(())
 }
 
 impl Numbered for u64 {
@@ -245,10 +255,7 @@ impl<T: Numbered + Drop> Numbered for Seq<T> {
     ghost renamed_by = { λ r. map (T.renamed_by r) };
 
     fn add_places(&self, list: &mut Places) -> Result<(), AllocError> {
-        for item in self.items() {
-            item.add_places(list)?;
-        }
-        Ok(())
+        add_all(self.items(), list)
     }
 
     fn renamed(&self, numbers: &Numbers<'_>, alloc: Global) -> Result<Seq<T>, AllocError> {
