@@ -132,9 +132,13 @@ results_of_block block = Local block.label ∷ flat_map (λ inst. places_of_opti
 abbrev pub definitions_of_func : FuncParts → List Place
 definitions_of_func f = map (λ param. Local param.1) f.params ++ flat_map results_of_block f.blocks
 
--- what a function mentions, as written (LLVM Language Reference, 'Functions')
+-- the line that begins a function (LLVM Language Reference, 'Functions')
+abbrev pub places_of_head : FuncParts → List Place
+places_of_head f = places_of_ty f.ret ++ Global f.sym ∷ [] ++ flat_map (λ param. places_of_ty param.0 ++ Local param.1 ∷ []) f.params
+
+-- what a function mentions, as written
 abbrev pub mentions_of_func : FuncParts → List Place
-mentions_of_func f = places_of_ty f.ret ++ Global f.sym ∷ [] ++ flat_map (λ param. places_of_ty param.0 ++ Local param.1 ∷ []) f.params ++ flat_map places_of_block f.blocks
+mentions_of_func f = places_of_head f ++ flat_map places_of_block f.blocks
 
 -- A function's definitions stand before all that it mentions: so its registers and labels are numbered by their
 -- first definitions, and those that are nowhere defined by first sight.
