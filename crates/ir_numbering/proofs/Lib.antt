@@ -1,5 +1,5 @@
 pub mod Lacking
-pub mod Tables
+pub mod TakenNames
 pub mod Kept
 pub mod Results
 pub mod Filling

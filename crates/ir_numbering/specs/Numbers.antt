@@ -3,7 +3,8 @@ use Rattle.std.specs.Prelude.{ℕ, ◌≡◌, ◌+◌, ◌<◌, List, [], ◌∷
 use Rattle.ir_core.specs.Module.{ModuleParts, FuncParts}
 use Rattle.ir_core.specs.Names.{number_given, numbered}
 use Rattle.ir_core.specs.TokenLengths.{name_from}
-use Rattle.ir_numbering.specs.Renaming.{Renaming}
+use Rattle.ir_numbering.specs.Renaming.{Renaming, renamed_func}
+use Rattle.ir_numbering.specs.Places.{places_of_func}
 use Rattle.ir_numbering.specs.declared.places.Place.{Place}
 use Rattle.ir_numbering.specs.declared.places.Place.TheVariants.{Local, Struct, Global}
 
@@ -43,16 +44,22 @@ abbrev pub func_with : List ℕ → List Place → FuncParts → FuncParts
 func_with text places f = record f { names = with_names f.names (locals_at text places) }
 
 -- The names at a front of the places have joined the tables, and nothing else changed.
-pub record HasFront (text : List ℕ) (places : List Place) (m : ModuleParts) (f : FuncParts) (m' : ModuleParts) (f' : FuncParts) : Type 0 where
+pub record ModuleFront (text : List ℕ) (places : List Place) (before after : ModuleParts) : Type 0 where
   pub count : ℕ
-  pub in_module : m' ≡ module_with text (take count places) m
-  pub in_func : f' ≡ func_with text (take count places) f
+  pub is : after ≡ module_with text (take count places) before
 
--- each table has room for so many names more
-pub record HasRoom (count : ℕ) (m : ModuleParts) (f : FuncParts) : Type 0 where
+pub record FuncFront (text : List ℕ) (places : List Place) (before after : FuncParts) : Type 0 where
+  pub count : ℕ
+  pub is : after ≡ func_with text (take count places) before
+
+pub record HasFront (text : List ℕ) (places : List Place) (m : ModuleParts) (f : FuncParts) (m' : ModuleParts) (f' : FuncParts) : Type 0 where
+  pub in_module : ModuleFront text places m m'
+  pub in_func : FuncFront text places f f'
+
+-- each table of a module has room for so many names more
+pub record HasRoom (count : ℕ) (m : ModuleParts) : Type 0 where
   pub syms : length m.syms + count < 4294967295
   pub type_names : length m.type_names + count < 4294967295
-  pub names : length f.names + count < 4294967295
 
 -- ---- what becomes of places
 
@@ -63,3 +70,17 @@ renaming_of text m f = record {
   type_id = λ at. number_given m.type_names (name_from text at);
   sym = λ at. number_given m.syms (name_from text at);
 }
+
+-- outside functions: no place is a register's or a label's
+abbrev pub renaming_outside : List ℕ → ModuleParts → Renaming
+renaming_outside text m = record {
+  loc = λ at. 0;
+  type_id = λ at. number_given m.type_names (name_from text at);
+  sym = λ at. number_given m.syms (name_from text at);
+}
+
+-- a function whose registers and labels are numbered by the places of its own tree
+abbrev pub numbered_func : List ℕ → ModuleParts → FuncParts → FuncParts
+numbered_func text m f =
+    let names = with_names [] (locals_at text (places_of_func f)) in
+    record (renamed_func (renaming_of text m (record f { names = names })) f) { names = names }

@@ -1,13 +1,11 @@
 //! The numbers of the names in a text.
-ghost use Rattle.std.specs.Prelude.{◌≡◌, ◌<◌, ◌↔◌, IsTrue, [], ◌∷◌, length, IfOk, OnOk, OnErr};
+ghost use Rattle.std.specs.Prelude.{◌≡◌};
 ghost use Rattle.ir_core.specs.TokenLengths.{name_from};
 ghost use Rattle.ir_numbering.specs.Renaming.{renamed_loc, renamed_type_id, renamed_sym};
-ghost use Rattle.ir_numbering.specs.Numbers.{renaming_of, module_with, func_with, HasFront, HasRoom};
+ghost use Rattle.ir_numbering.specs.Numbers.{renaming_of};
 
-use crate::{Numbered, Place, Places};
-use ir_core::{Func, Loc, Module, Seq, Sym, TypeId};
+use ir_core::{Func, Loc, Module, Sym, TypeId};
 use ir_lex::name_from;
-use std::alloc::{AllocError, Global};
 
 /// A text and the tables that number its names: those of a module, and of one of its functions.
 #[derive(Clone, Copy)]
@@ -62,114 +60,4 @@ impl Numbers<'_> {
             None => Sym(self.in_module.sym_count()),
         }
     }
-}
-
-/// The places of a tree's names, in the order in which its line writes them.
-pub fn places_of<T: Numbered>(tree: &T, alloc: Global) -> Result<Places, AllocError>
-    ensures { IfOk result (λ places. places ≡ T.places tree.now) }
-{
-    let mut places = Seq::new(alloc);
-    tree.add_places(&mut places)?;
-    Ok(places)
-}
-
-/// Whether each name table has room for so many names more.
-pub fn has_room(count: usize, m: &Module, f: &Func) -> bool
-    ensures { IsTrue result ↔ HasRoom count m.now f.now }
-{
-    count < (u32::MAX - m.sym_count()) as usize
-        && count < (u32::MAX - m.type_count()) as usize
-        && count < (u32::MAX - f.loc_count()) as usize
-}
-
-// Numbers the name at one place.
-#[tactic(auto, unfolding(crate::specs::Numbers::with_names))]
-fn number_place(
-    place: Place,
-    text: &[u8],
-    m: &mut Module,
-    f: &mut Func,
-) -> Result<(), AllocError>
-    requires { HasRoom 0 m.old f.old }
-    ensures in_module { OnOk result (m.new ≡ module_with text.now (place ∷ []) m.old) }
-    ensures in_func { OnOk result (f.new ≡ func_with text.now (place ∷ []) f.old) }
-    ensures err { OnErr result ((m.new ≡ m.old) × (f.new ≡ f.old)) }
-{
-    match place {
-        Place::Local(at) => {
-            f.loc(name_at(text, at.0))?;
-        }
-        Place::Struct(at) => {
-            m.type_id(name_at(text, at.0))?;
-        }
-        Place::Global(at) => {
-            m.sym(name_at(text, at.0))?;
-        }
-    }
-    Ok(())
-}
-
-/// Numbers the names at the places in order: a name that its table lacks joins it.
-/// For want of memory some of the names may have joined, and nothing else has changed.
-pub fn number_places(
-    places: &[Place],
-    text: &[u8],
-    m: &mut Module,
-    f: &mut Func,
-) -> Result<(), AllocError>
-    requires { HasRoom (length places.now) m.old f.old }
-    ensures in_module { OnOk result (m.new ≡ module_with text.now places.now m.old) }
-    ensures in_func { OnOk result (f.new ≡ func_with text.now places.now f.old) }
-    ensures err { OnErr result (HasFront text.now places.now m.old f.old m.new f.new) }
-{
-    for place in places {
-        number_place(*place, text, m, f)?;
-    }
-    Ok(())
-}
-
-/// Numbers the names of a tree in the order in which its line writes them.
-/// For want of memory, which includes a table without room for 4,294,967,295 names, some of the names may
-/// have joined the tables, and nothing else has changed.
-pub fn add_names<T: Numbered>(
-    tree: &T,
-    text: &[u8],
-    m: &mut Module,
-    f: &mut Func,
-    alloc: Global,
-) -> Result<(), AllocError>
-    ensures in_module { OnOk result (m.new ≡ module_with text.now (T.places tree.now) m.old) }
-    ensures in_func { OnOk result (f.new ≡ func_with text.now (T.places tree.now) f.old) }
-    ensures err { OnErr result (HasFront text.now (T.places tree.now) m.old f.old m.new f.new) }
-{
-    let places = places_of(tree, alloc)?;
-    let places = places.items();
-    if !has_room(places.len(), m, f) {
-        return Err(AllocError);
-    }
-    number_places(places, text, m, f)
-}
-
-/// Numbers the names of a tree, and gives the tree with these numbers in place of their places.
-/// For want of memory, as in `add_names`, some of the names may have joined the tables, and nothing else
-/// has changed.
-pub fn numbered<T: Numbered>(
-    tree: &T,
-    text: &[u8],
-    m: &mut Module,
-    f: &mut Func,
-    alloc: Global,
-) -> Result<T, AllocError>
-    ensures tree { IfOk result (λ t. t ≡ T.renamed_by (renaming_of text.now m.new f.new) tree.now) }
-    ensures in_module { OnOk result (m.new ≡ module_with text.now (T.places tree.now) m.old) }
-    ensures in_func { OnOk result (f.new ≡ func_with text.now (T.places tree.now) f.old) }
-    ensures err { OnErr result (HasFront text.now (T.places tree.now) m.old f.old m.new f.new) }
-{
-    add_names(tree, text, m, f, alloc)?;
-    let numbers = Numbers {
-        text,
-        in_module: m,
-        in_func: f,
-    };
-    tree.renamed(&numbers, alloc)
 }

@@ -1,5 +1,5 @@
 -- Name tables that take the names at places: one place after others, and how long they get.
-use Rattle.std.proofs.Common.{◌≡◌, ℕ, ◌+◌, ◌<◌, ◌≤◌, List, [], ◌∷◌, ◌++◌, length, take, get_or, fold, ap, refl, sym, ◌∙◌, arith}
+use Rattle.std.proofs.Common.{◌≡◌, ℕ, ◌+◌, ◌<◌, ◌≤◌, List, [], ◌∷◌, ◌++◌, length, take, get_or, fold, ap, refl, sym, subst, ◌∙◌, arith}
 use Rattle.std.proofs.Math.Seq.{take-length}
 use Rattle.std.proofs.lemmas.List.{length-take, take_more}
 use Rattle.std.proofs.lemmas.List.Sums.{fold-append}
@@ -9,7 +9,9 @@ use Rattle.ir_core.proofs.Numbering.{length-numbered}
 use Rattle.ir_core.specs.TokenLengths.{name_from}
 use Rattle.ir_numbering.specs.declared.places.Place.{Place}
 use Rattle.ir_numbering.specs.declared.places.Place.TheVariants.{Local, Struct, Global}
-use Rattle.ir_numbering.specs.Numbers.{locals_at, structs_at, globals_at, with_names, module_with, func_with, HasFront, HasRoom}
+use Rattle.ir_numbering.specs.Numbers.{locals_at, structs_at, globals_at, with_names, module_with, func_with, ModuleFront, FuncFront, HasFront, HasRoom, renaming_of, numbered_func}
+use Rattle.ir_numbering.specs.Places.{places_of_func}
+use Rattle.ir_numbering.specs.Renaming.{renamed_func}
 
 -- ---- the names at places
 
@@ -78,16 +80,29 @@ type_names_within text places m = omega (arith, length-with_names m.type_names (
 pub names_within : (text : List ℕ) (places : List Place) (f : FuncParts) → length (func_with text places f).names ≤ length f.names + length places
 names_within text places f = omega (arith, length-with_names f.names (locals_at text places), length-locals_at text places)
 
--- no place changes nothing
-pub HasFront-none : (text : List ℕ) (places : List Place) (m : ModuleParts) (f : FuncParts) → HasFront text places m f m f
+-- ---- the tables after a front of the places
+
+-- none
+pub ModuleFront-none : (text : List ℕ) (places : List Place) (m : ModuleParts) → ModuleFront text places m m
 unfolding with_names
-HasFront-none text places m f = record { count = 0; in_module = refl; in_func = refl }
+ModuleFront-none text places m = record { count = 0; is = refl }
+
+pub FuncFront-none : (text : List ℕ) (places : List Place) (f : FuncParts) → FuncFront text places f f
+unfolding with_names
+FuncFront-none text places f = record { count = 0; is = refl }
+
+pub HasFront-none : (text : List ℕ) (places : List Place) (m : ModuleParts) (f : FuncParts) → HasFront text places m f m f
+HasFront-none text places m f = record { in_module = ModuleFront-none text places m; in_func = FuncFront-none text places f }
 
 -- all of them
-pub HasFront-all : (text : List ℕ) (places : List Place) (m : ModuleParts) (f : FuncParts) (m' : ModuleParts) (f' : FuncParts) → m' ≡ module_with text places m → f' ≡ func_with text places f → HasFront text places m f m' f'
-HasFront-all text places m f m' f' e d =
-    let all = sym (take-length places) in
-    record { count = length places; in_module = e ∙ ap (λ l. module_with text l m) all; in_func = d ∙ ap (λ l. func_with text l f) all }
+pub ModuleFront-all : (text : List ℕ) (places : List Place) (m m' : ModuleParts) → m' ≡ module_with text places m → ModuleFront text places m m'
+ModuleFront-all text places m m' e = record { count = length places; is = e ∙ ap (λ l. module_with text l m) (sym (take-length places)) }
+
+pub FuncFront-all : (text : List ℕ) (places : List Place) (f f' : FuncParts) → f' ≡ func_with text places f → FuncFront text places f f'
+FuncFront-all text places f f' e = record { count = length places; is = e ∙ ap (λ l. func_with text l f) (sym (take-length places)) }
+
+pub HasFront-all : (text : List ℕ) (places : List Place) (m m' : ModuleParts) (f f' : FuncParts) → m' ≡ module_with text places m → f' ≡ func_with text places f → HasFront text places m f m' f'
+HasFront-all text places m m' f f' e d = record { in_module = ModuleFront-all text places m m' e; in_func = FuncFront-all text places f f' d }
 
 -- the next place
 module _ (text : List ℕ) (places : List Place) (i : ℕ) (d : Place) (h : i < length places) where
@@ -100,14 +115,32 @@ module _ (text : List ℕ) (places : List Place) (i : ℕ) (d : Place) (h : i < 
       here ∙ ap (func_with text (get_or places i d ∷ [])) before ∙ func_with-append text (take i places) (get_or places i d ∷ []) f ∙ ap (λ l. func_with text l f) (sym (take_more places i d h))
 
 -- room for all places is room for one more after some of them
-pub room_left : (text : List ℕ) (places : List Place) (i : ℕ) (m m1 : ModuleParts) (f f1 : FuncParts) → i < length places → m1 ≡ module_with text (take i places) m → f1 ≡ func_with text (take i places) f → HasRoom (length places) m f → HasRoom 0 m1 f1
-room_left text places i m m1 f f1 h e d room =
-    let syms = ap (λ m. length m.syms) e in
-    let type_names = ap (λ m. length m.type_names) e in
-    let names = ap (λ f. length f.names) d in
-    let taken = length-take i places in
-    record {
-      syms = omega (arith, room.syms, syms_within text (take i places) m);
-      type_names = omega (arith, room.type_names, type_names_within text (take i places) m);
-      names = omega (arith, room.names, names_within text (take i places) f);
-    }
+module _ (text : List ℕ) (places : List Place) (i : ℕ) (h : i < length places) where
+  pub module_room : (m m1 : ModuleParts) → m1 ≡ module_with text (take i places) m → HasRoom (length places) m → HasRoom 0 m1
+  module_room m m1 e room =
+      let syms = ap (λ m. length m.syms) e in
+      let type_names = ap (λ m. length m.type_names) e in
+      let taken = length-take i places in
+      record {
+        syms = omega (arith, room.syms, syms_within text (take i places) m);
+        type_names = omega (arith, room.type_names, type_names_within text (take i places) m);
+      }
+
+  pub func_room : (f f1 : FuncParts) → f1 ≡ func_with text (take i places) f → length f.names + length places < 4294967295 → length f1.names < 4294967295
+  func_room f f1 e room =
+      let names = ap (λ f. length f.names) e in
+      let taken = length-take i places in
+      omega (arith, names_within text (take i places) f)
+
+-- a function whose table was empty, and takes the names twice: once to number by, and once in the answer
+pub numbered_func-is : (text : List ℕ) (m : ModuleParts) (tree table : FuncParts) → table.names ≡ [] → func_with text (places_of_func tree) (renamed_func (renaming_of text m (func_with text (places_of_func tree) table)) tree) ≡ numbered_func text m tree
+numbered_func-is text m tree table e = ap (λ (start : List (List ℕ)). func_with text (places_of_func tree) (renamed_func (renaming_of text m (record tree { names = with_names start (locals_at text (places_of_func tree)) })) tree)) e
+
+pub numbered_func-by : (text : List ℕ) (m : ModuleParts) (tree table table' : FuncParts) (places : List Place) (f g : FuncParts) → table.names ≡ [] → places ≡ places_of_func tree → table' ≡ func_with text places table → f ≡ renamed_func (renaming_of text m table') tree → g ≡ func_with text places f → g ≡ numbered_func text m tree
+numbered_func-by text m tree table table' places f g start all taken renamed e =
+    e ∙ ap (func_with text places) (renamed ∙ ap (λ (t : FuncParts). renamed_func (renaming_of text m t) tree) taken)
+    ∙ ap (λ (ps : List Place). func_with text ps (renamed_func (renaming_of text m (func_with text ps table)) tree)) all ∙ numbered_func-is text m tree table start
+
+-- a front in the module, and none in the function
+pub HasFront-outer : (text : List ℕ) (places all : List Place) (m m' : ModuleParts) (f : FuncParts) → places ≡ all → ModuleFront text places m m' → HasFront text all m f m' f
+HasFront-outer text places all m m' f e front = record { in_module = subst (λ ps. ModuleFront text ps m m') e front; in_func = FuncFront-none text all f }
