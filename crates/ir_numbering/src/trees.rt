@@ -67,7 +67,17 @@ pub(crate) fn renamed_three<A: Numbered + Drop, B: Numbered + Drop, C: Numbered>
         (trees.0 ≡ A.renamed_by r a.now) × (trees.1 ≡ B.renamed_by r b.now) × (trees.2 ≡ C.renamed_by r c.now)) }
 {
     let both = renamed_both(a, b, numbers, alloc)?;
-    let ((first, second), third) = paired(both, c.renamed(numbers, alloc))?;
+    with_third(both, c.renamed(numbers, alloc))
+}
+
+// Two values and one that may have found no memory. The two are then dropped.
+fn with_third<A: Drop, B: Drop, C>(
+    both: (A, B),
+    third: Result<C, AllocError>,
+) -> Result<(A, B, C), AllocError>
+    ensures { IfOk result (λ all. (all.0 ≡ both.0) × (all.1 ≡ both.1) × (third ≡ Ok all.2)) }
+{
+    let ((first, second), third) = paired(both, third)?;
     Ok((first, second, third))
 }
 
