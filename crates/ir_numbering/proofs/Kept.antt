@@ -17,7 +17,7 @@ use Rattle.ir_core.specs.declared.types.TypeId.{TypeId}
 use Rattle.ir_core.specs.declared.types.Sym.{Sym}
 use Rattle.ir_numbering.specs.declared.places.Place.{Place}
 use Rattle.ir_numbering.specs.declared.places.Place.TheVariants.{Local, Struct, Global}
-use Rattle.ir_numbering.specs.Numbers.{with_names, locals_at, structs_at, globals_at, module_with, func_with}
+use Rattle.ir_numbering.specs.Numbers.{with_names, locals_at, structs_at, globals_at, module_with, func_with, HasFront}
 use Rattle.ir_numbering.specs.Laws.{HasNumber}
 
 -- one name more
@@ -99,3 +99,9 @@ pub HasNumber-with : (text : List ℕ) (places : List Place) (m : ModuleParts) (
 HasNumber-with text places m f (Local at) has = number_given-taken f.names (locals_at text places) (name_from text at.0) (local_is text places at has)
 HasNumber-with text places m f (Struct at) has = number_given-taken m.type_names (structs_at text places) (name_from text at.0) (struct_is text places at has)
 HasNumber-with text places m f (Global at) has = number_given-taken m.syms (globals_at text places) (name_from text at.0) (global_is text places at has)
+
+-- ---- what a front of the places changes
+
+pub tables_alone : (text : List ℕ) (places : List Place) (m m' : ModuleParts) (f f' : FuncParts) → HasFront text places m f m' f' → (m' ≡ record m { syms = m'.syms; type_names = m'.type_names }) × (f' ≡ record f { names = f'.names })
+tables_alone text places m m' f f' front =
+    (subst (λ (x : ModuleParts). x ≡ record m { syms = x.syms; type_names = x.type_names }) (sym front.in_module.is) refl, subst (λ (x : FuncParts). x ≡ record f { names = x.names }) (sym front.in_func.is) refl)

@@ -5,7 +5,7 @@ use Rattle.ir_core.specs.Module.{ModuleParts, FuncParts}
 use Rattle.ir_core.specs.Names.{number_given}
 use Rattle.ir_numbering.specs.declared.places.Place.{Place}
 use Rattle.ir_numbering.specs.declared.places.Place.TheVariants.{Local, Struct, Global}
-use Rattle.ir_numbering.specs.Numbers.{with_names, module_with, func_with, renaming_of}
+use Rattle.ir_numbering.specs.Numbers.{with_names, module_with, func_with, renaming_of, HasFront}
 
 -- a name that has a number keeps it
 abbrev pub NumbersStay : Type 0
@@ -20,3 +20,7 @@ HasNumber text m f (Global at) = (renaming_of text m f).sym at.0 < length m.syms
 -- the names at places have numbers once the tables have taken them
 abbrev pub PlacesAreNumbered : Type 0
 PlacesAreNumbered = (text : List ℕ) (places : List Place) (m : ModuleParts) (f : FuncParts) (place : Place) → Contains places place → HasNumber text (module_with text places m) (func_with text places f) place
+
+-- after want of memory a module is as before but for its name tables, and so is a function
+abbrev pub OnlyTablesChange : Type 0
+OnlyTablesChange = (text : List ℕ) (places : List Place) (m m' : ModuleParts) (f f' : FuncParts) → HasFront text places m f m' f' → (m' ≡ record m { syms = m'.syms; type_names = m'.type_names }) × (f' ≡ record f { names = f'.names })

@@ -26,7 +26,11 @@ impl Numbered for Inst {
                 b,
             } => add_five(dst, cond, ty, a, b, list),
             Inst::Cast {
-                dst, from, a, to, ..
+                dst,
+                from,
+                a,
+                to,
+                ..
             } => add_four(dst, from, a, to, list),
             Inst::Gep {
                 dst,
@@ -38,7 +42,11 @@ impl Numbered for Inst {
             Inst::Load { dst, ty, ptr, .. } => add_three(dst, ty, ptr, list),
             Inst::Store { ty, val, ptr, .. } => add_three(ty, val, ptr, list),
             Inst::Rmw {
-                dst, ptr, ty, val, ..
+                dst,
+                ptr,
+                ty,
+                val,
+                ..
             } => add_four(dst, ptr, ty, val, list),
             Inst::CmpXchg {
                 dst,
@@ -49,7 +57,10 @@ impl Numbered for Inst {
             } => add_five(dst, ptr, ty, old, new, list),
             Inst::Fence | Inst::Unreachable => Ok(()),
             Inst::Extract {
-                dst, elem, pair, ..
+                dst,
+                elem,
+                pair,
+                ..
             } => add_three(dst, elem, pair, list),
             Inst::Call {
                 dst,
@@ -154,7 +165,10 @@ impl Numbered for Inst {
             }
             Inst::Alloca { dst, ty } => {
                 let ty = ty.renamed(numbers, alloc)?;
-                Ok(Inst::Alloca { dst: numbers.loc(*dst), ty })
+                Ok(Inst::Alloca {
+                    dst: numbers.loc(*dst),
+                    ty,
+                })
             }
             Inst::Load {
                 dst,
@@ -253,7 +267,9 @@ impl Numbered for Inst {
                     arms,
                 })
             }
-            Inst::Br { to } => Ok(Inst::Br { to: numbers.loc(*to) }),
+            Inst::Br { to } => Ok(Inst::Br {
+                to: numbers.loc(*to),
+            }),
             Inst::CondBr { cond, yes, no } => {
                 let cond = cond.renamed(numbers, alloc)?;
                 Ok(Inst::CondBr {

@@ -20,7 +20,7 @@ pub trait Numbered: Sized {
     /// The tree with other numbers in place of its own.
     ghost renamed_by: { renaming.Renaming → Self → Self };
 
-    /// Adds the places of the tree's names. For want of memory some of them may have been added.
+    /// Adds the places of the tree's names. For want of memory the list is of no more use.
     fn add_places(&self, list: &mut Places) -> Result<(), AllocError>
         ensures { OnOk result (list.new ≡ list.old ++ places self.now) };
 
@@ -47,7 +47,10 @@ pub(crate) fn renamed_both<A: Numbered + Drop, B: Numbered>(
 }
 
 // The pair of a value and of one that may have found no memory. The first is then dropped.
-pub(crate) fn paired<A: Drop, B>(first: A, second: Result<B, AllocError>) -> Result<(A, B), AllocError>
+pub(crate) fn paired<A: Drop, B>(
+    first: A,
+    second: Result<B, AllocError>,
+) -> Result<(A, B), AllocError>
     ensures { IfOk result (λ pair. (pair.0 ≡ first) × (second ≡ Ok pair.1)) }
 {
     let second = second?;
@@ -82,12 +85,7 @@ fn with_third<A: Drop, B: Drop, C>(
 }
 
 // Four trees with the numbers of their names.
-pub(crate) fn renamed_four<
-    A: Numbered + Drop,
-    B: Numbered + Drop,
-    C: Numbered + Drop,
-    D: Numbered,
->(
+pub(crate) fn renamed_four<A: Numbered + Drop, B: Numbered + Drop, C: Numbered + Drop, D: Numbered>(
     a: &A,
     b: &B,
     c: &C,
