@@ -230,6 +230,15 @@ impl Module {
         let number = self.syms.find(name)?;
         Some(Sym(number))
     }
+
+    /// The number of the named type, or `None` exactly where the module has no such name of a type.
+    pub fn find_type(&self, name: &[u8]) -> Option<TypeId>
+        ensures number { option_map (λ t. t.0) result ≡ number_of self.now.type_names name.now }
+        ensures within { IfSome result (λ t. t.0 < length self.now.type_names) }
+    {
+        let number = self.type_names.find(name)?;
+        Some(TypeId(number))
+    }
 }
 
 impl Func {

@@ -1,0 +1,5 @@
+pub mod Lacking
+pub mod TakenNames
+pub mod Kept
+pub mod Results
+pub mod Filling

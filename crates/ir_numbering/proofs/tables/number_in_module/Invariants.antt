@@ -1,0 +1,6 @@
+use Rattle.std.proofs.Common.{◌≡◌, take}
+use Rattle.ir_numbering.specs.Numbers.{module_with}
+use Rattle.ir_numbering.proofs.tables.number_in_module.Given as goal
+
+abbrev pub invariant-loop-place : goal.invariant-loop-place
+invariant-loop-place l = l.m ≡ module_with l.text (take l.place-index l.places) l.fn.m

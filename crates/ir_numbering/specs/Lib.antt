@@ -1,0 +1,4 @@
+pub mod Places
+pub mod Renaming
+pub mod Numbers
+pub mod Laws

@@ -1,0 +1,86 @@
+-- Name tables over a text: the tables once they have the names at places, and what becomes of places.
+use Rattle.std.specs.Prelude.{ℕ, ◌≡◌, ◌+◌, ◌<◌, List, [], ◌∷◌, length, take, fold}
+use Rattle.ir_core.specs.Module.{ModuleParts, FuncParts}
+use Rattle.ir_core.specs.Names.{number_given, numbered}
+use Rattle.ir_core.specs.TokenLengths.{name_from}
+use Rattle.ir_numbering.specs.Renaming.{Renaming, renamed_func}
+use Rattle.ir_numbering.specs.Places.{places_of_func}
+use Rattle.ir_numbering.specs.declared.places.Place.{Place}
+use Rattle.ir_numbering.specs.declared.places.Place.TheVariants.{Local, Struct, Global}
+
+-- ---- the tables once they have names
+
+-- the `%` names of registers and labels at the places, in order
+abbrev pub locals_at : List ℕ → List Place → List (List ℕ)
+locals_at text [] = []
+locals_at text (Local at ∷ places) = name_from text at.0 ∷ locals_at text places
+locals_at text (Struct at ∷ places) = locals_at text places
+locals_at text (Global at ∷ places) = locals_at text places
+
+-- the names of types there
+abbrev pub structs_at : List ℕ → List Place → List (List ℕ)
+structs_at text [] = []
+structs_at text (Local at ∷ places) = structs_at text places
+structs_at text (Struct at ∷ places) = name_from text at.0 ∷ structs_at text places
+structs_at text (Global at ∷ places) = structs_at text places
+
+-- the `@` names there
+abbrev pub globals_at : List ℕ → List Place → List (List ℕ)
+globals_at text [] = []
+globals_at text (Local at ∷ places) = globals_at text places
+globals_at text (Struct at ∷ places) = globals_at text places
+globals_at text (Global at ∷ places) = name_from text at.0 ∷ globals_at text places
+
+-- a table once it has the names, each by its first sight
+unfoldable pub with_names : List (List ℕ) → List (List ℕ) → List (List ℕ)
+with_names table names = fold numbered table names
+
+-- a module once it has the names at the places
+abbrev pub module_with : List ℕ → List Place → ModuleParts → ModuleParts
+module_with text places m = record m { syms = with_names m.syms (globals_at text places); type_names = with_names m.type_names (structs_at text places) }
+
+-- a function once it has the names at the places
+abbrev pub func_with : List ℕ → List Place → FuncParts → FuncParts
+func_with text places f = record f { names = with_names f.names (locals_at text places) }
+
+-- The names at a front of the places have joined the tables, and nothing else changed.
+pub record ModuleFront (text : List ℕ) (places : List Place) (before after : ModuleParts) : Type 0 where
+  pub count : ℕ
+  pub is : after ≡ module_with text (take count places) before
+
+pub record FuncFront (text : List ℕ) (places : List Place) (before after : FuncParts) : Type 0 where
+  pub count : ℕ
+  pub is : after ≡ func_with text (take count places) before
+
+pub record HasFront (text : List ℕ) (places : List Place) (m : ModuleParts) (f : FuncParts) (m' : ModuleParts) (f' : FuncParts) : Type 0 where
+  pub in_module : ModuleFront text places m m'
+  pub in_func : FuncFront text places f f'
+
+-- each table of a module has room for so many names more
+pub record HasRoom (count : ℕ) (m : ModuleParts) : Type 0 where
+  pub syms : length m.syms + count < 4294967295
+  pub type_names : length m.type_names + count < 4294967295
+
+-- ---- what becomes of places
+
+-- a place becomes the number of the name that begins there
+abbrev pub renaming_of : List ℕ → ModuleParts → FuncParts → Renaming
+renaming_of text m f = record {
+  loc = λ at. number_given f.names (name_from text at);
+  type_id = λ at. number_given m.type_names (name_from text at);
+  sym = λ at. number_given m.syms (name_from text at);
+}
+
+-- outside functions: no place is a register's or a label's
+abbrev pub renaming_outside : List ℕ → ModuleParts → Renaming
+renaming_outside text m = record {
+  loc = λ at. 0;
+  type_id = λ at. number_given m.type_names (name_from text at);
+  sym = λ at. number_given m.syms (name_from text at);
+}
+
+-- a function whose registers and labels are numbered by the places of its own tree
+abbrev pub numbered_func : List ℕ → ModuleParts → FuncParts → FuncParts
+numbered_func text m f =
+    let names = with_names [] (locals_at text (places_of_func f)) in
+    record (renamed_func (renaming_of text m (record f { names = names })) f) { names = names }
