@@ -48,7 +48,7 @@ side_in b = if b == 109 then Some M else if b == 115 then Some S else None
 unfoldable pub register_in : List ℕ → Option (Side × List ℕ)
 register_in [] = None
 register_in (b ∷ []) = None
-register_in (b ∷ dot ∷ name) = if dot == 46 && is_name name then side_in b >>= λ side. Some (side, name) else None
+register_in (b ∷ dot ∷ name) = if dot == 46 && is_name name then (side_in b >>= λ side. Some (side, name)) else None
 
 -- ---- the first of the fields, and the fields behind it
 
@@ -123,7 +123,7 @@ entry_of word fields = if bytes_eq word (codes "turn") then turn_entry fields
 -- the arguments, with those of the fields
 unfoldable pub args_from : List ℕ → List (List ℕ) → Option (List ℕ)
 args_from args [] = Some args
-args_from args (field ∷ fields) = if nat_lt (length args) 64 then number_below (2 ^ 64) field >>= (λ n. args_from (args ++ n ∷ []) fields) else None
+args_from args (field ∷ fields) = if nat_lt (length args) 64 then (number_below (2 ^ 64) field >>= λ n. args_from (args ++ n ∷ []) fields) else None
 
 -- how many events an entry has
 unfoldable pub event_count : Line → ℕ

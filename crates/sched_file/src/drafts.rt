@@ -1,8 +1,7 @@
 //! What the lines of a text so far say.
 ghost use Rattle.std.specs.Prelude.{◌≡◌, ◌≤◌, ◌^◌, ◌-◌, [], Some, None, IfOk, MatchBool, false};
-ghost use Rattle.std.specs.Int.{min};
 ghost use Rattle.sched_file.specs.Fields.{fields_of};
-ghost use Rattle.sched_file.specs.Reading.{args_from, event_count, with_args, with_line, taken};
+ghost use Rattle.sched_file.specs.Reading.{args_from, only_below, event_count, with_args, with_line, taken};
 
 use crate::Line;
 use crate::cutting::Fields;
@@ -46,15 +45,15 @@ fn args(alloc: Global, fields: &mut Fields) -> Result<Option<Seq<u64>>, AllocErr
     Ok(Some(args))
 }
 
-/// How many events the entry has, or the greatest `u64` where they are more.
+/// How many events the entry has, where they are fewer than two to the power of 64.
 #[tactic(auto, unfolding(crate::specs::Reading::event_count))]
-fn event_count(line: &Line) -> u64
-    ensures { result ≡ min (event_count line.now) 18446744073709551615 }
+fn event_count(line: &Line) -> Option<u64>
+    ensures { result ≡ only_below (2 ^ 64) (event_count line.now) }
 {
     match line {
-        Line::Turn(_, turns) | Line::Mix(_, _, turns) => *turns,
-        Line::Round(threads, rounds) => u64::from(*threads).saturating_mul(*rounds),
-        Line::Abort(_) | Line::Upset(_) => 1,
+        Line::Turn(_, turns) | Line::Mix(_, _, turns) => Some(*turns),
+        Line::Round(threads, rounds) => u64::from(*threads).checked_mul(*rounds),
+        Line::Abort(_) | Line::Upset(_) => Some(1),
     }
 }
 
@@ -92,7 +91,9 @@ impl Draft {
             (with_line self.old line ≡ Some self.new)
             (with_line self.old line ≡ None)) }
     {
-        let count = event_count(&line);
+        let Some(count) = event_count(&line) else {
+            return Ok(false);
+        };
         if count > MOST_EVENTS - self.events {
             return Ok(false);
         }

@@ -41,7 +41,7 @@ fn draw_same(tid: Tid, turns: u64) -> Option<(Tid, Pending)>
     Some((tid, Pending::Same(tid, turns - 1)))
 }
 
-#[tactic(auto, unfolding(crate::specs::Pending::turns_left, crate::specs::Events::round_turns))]
+#[tactic(auto, using(crate::proofs::Turns::next_round, crate::proofs::Turns::no_round), unfolding(crate::specs::Pending::turns_left))]
 fn draw_round(threads: u32, next: u32, rounds: u64) -> Option<(Tid, Pending)>
     requires { IsReady (Pending.Rounds threads next rounds) }
     ensures none { IfNone result (turns_left (Pending.Rounds threads next rounds) ≡ []) }
@@ -91,7 +91,7 @@ impl Pending {
 }
 
 /// The first event of the turns and the entries, with the turns and the entries behind it.
-fn draw<'a>(pending: Pending, lines: &'a [Line]) -> Option<(Event<'a>, Pending, &'a [Line])>
+fn draw_event<'a>(pending: Pending, lines: &'a [Line]) -> Option<(Event<'a>, Pending, &'a [Line])>
     requires pending { IsReady pending }
     requires lines { AllByRecursion HasThread lines.now }
     ensures none { IfNone result (turns_left pending ++ events_of lines.now ≡ []) }
@@ -105,7 +105,9 @@ fn draw<'a>(pending: Pending, lines: &'a [Line]) -> Option<(Event<'a>, Pending, 
         if let Some((tid, left)) = pending.draw() {
             return Some((Event::Turn(tid), left, lines));
         }
-        let (line, rest) = lines.split_first()?;
+        let Some((line, rest)) = lines.split_first() else {
+            return None;
+        };
         lines = rest;
         pending = match line {
             Line::Turn(tid, turns) => Pending::Same(*tid, *turns),
@@ -143,6 +145,7 @@ impl<'a> Model for Cursor<'a> {
 
 impl<'a> Cursor<'a> {
     /// The place before the first event of the entries.
+    #[tactic(auto, unfolding(crate::specs::Pending::turns_left))]
     pub(crate) fn new(lines: &'a [Line]) -> Cursor<'a>
         requires { AllByRecursion HasThread lines.now }
         ensures { result ≡ events_of lines.now }
@@ -159,7 +162,7 @@ impl<'a> Cursor<'a> {
         ensures end { IfNone result ((self.old ≡ []) × (self.new ≡ [])) }
         ensures next { IfSome result (λ event. self.old ≡ shown event ∷ self.new) }
     {
-        let (event, pending, lines) = draw(self.pending, self.lines)?;
+        let (event, pending, lines) = draw_event(self.pending, self.lines)?;
         self.pending = pending;
         self.lines = lines;
         Some(event)

@@ -1,8 +1,9 @@
 //! Numbers and registers, as single fields.
 ghost use Rattle.std.specs.Prelude.{◌≡◌, ◌<◌, ◌^◌, IfSome};
+ghost use Rattle.std.specs.List.{list_all};
 ghost use Rattle.std.specs.Option.{option_map};
 ghost use Rattle.ir_core.specs.Tokens.{is_digit, is_letter, begins_name, is_name_byte, is_name};
-ghost use Rattle.sched_file.specs.Reading.{with_digit, number_from, number_in, number_below, register_in};
+ghost use Rattle.sched_file.specs.Reading.{with_digit, number_from, number_in, number_below, side_in, register_in};
 
 use ir_core::Side;
 
@@ -63,27 +64,45 @@ fn is_name_byte(byte: u8) -> bool
     begins_name(byte) || byte.is_ascii_digit()
 }
 
+fn are_digits(bytes: &[u8]) -> bool
+    ensures { result ≡ list_all is_digit bytes.now }
+{
+    bytes.iter().all(|byte| byte.is_ascii_digit())
+}
+
+fn are_name_bytes(bytes: &[u8]) -> bool
+    ensures { result ≡ list_all is_name_byte bytes.now }
+{
+    bytes.iter().all(|byte| is_name_byte(*byte))
+}
+
 fn is_name(bytes: &[u8]) -> bool
     ensures { result ≡ is_name bytes.now }
 {
     match bytes {
         [] => false,
-        [first, rest @ ..] => {
-            begins_name(*first) && rest.iter().all(|byte| is_name_byte(*byte))
-                || bytes.iter().all(|byte| byte.is_ascii_digit())
-        }
+        [first, rest @ ..] => begins_name(*first) && are_name_bytes(rest) || are_digits(bytes),
+    }
+}
+
+#[tactic(auto, unfolding(crate::specs::Reading::side_in))]
+fn side(byte: u8) -> Option<Side>
+    ensures { result ≡ side_in byte }
+{
+    match byte {
+        b'm' => Some(Side::M),
+        b's' => Some(Side::S),
+        _ => None,
     }
 }
 
 /// The side and the name of a register that is written as `m.x` or `s.x`.
-#[tactic(auto, unfolding(crate::specs::Reading::register_in, crate::specs::Reading::side_in))]
+#[tactic(auto, unfolding(crate::specs::Reading::register_in))]
 pub(crate) fn register(field: &[u8]) -> Option<(Side, &[u8])>
     ensures { option_map (λ x. (x.0, x.1.now)) result ≡ register_in field.now }
 {
-    let (side, name) = match field {
-        [b'm', b'.', name @ ..] => (Side::M, name),
-        [b's', b'.', name @ ..] => (Side::S, name),
-        _ => return None,
-    };
-    if is_name(name) { Some((side, name)) } else { None }
+    match field {
+        [first, b'.', name @ ..] if is_name(name) => Some((side(*first)?, name)),
+        _ => None,
+    }
 }
