@@ -1,7 +1,7 @@
 -- What the lines of a text so far say, and the laws of schedules and first unfit lines.
 use Rattle.std.proofs.Common.{◌≡◌, ℕ, suc, ◌+◌, ◌<◌, ◌≤◌, Bool, true, false, not, cond, List, [], ◌∷◌, ◌++◌, length, map, Option, Some, None, refl, sym, ap, subst, ◌∙◌, arith, lit≤, append_assoc, ◌⊎◌, inl, inr}
 use Rattle.std.specs.List.{AllByRecursion, filter}
-use Rattle.std.proofs.lemmas.List.{append-nil, map-append}
+use Rattle.std.proofs.lemmas.List.{append-nil, length-map, map-append}
 use Rattle.std.proofs.lemmas.List.Elements.{filter-append}
 use Rattle.ir_core.specs.Lines.{lines_of}
 use Rattle.sched_file.specs.declared.entries.Line.{Line}
@@ -81,6 +81,32 @@ entries_have_threads (row ∷ rows) (line ∷ lines) h = (entry_has_thread row l
 pub have_threads : (rows : List (List (List ℕ))) (args : List ℕ) (lines : List Line) → Means rows args lines → AllByRecursion HasThread lines
 have_threads rows args lines (Without a h) = entries_have_threads rows lines h
 have_threads rows args lines (With first others e a h) = entries_have_threads others lines h
+
+-- ---- how many entries
+
+pairwise_length : (rows : List (List (List ℕ))) (lines : List Line) → Pairwise IsEntry rows lines → length rows ≡ length lines
+pairwise_length [] [] h = refl
+pairwise_length [] (line ∷ lines) h = absurd h
+pairwise_length (row ∷ rows) [] h = absurd h
+pairwise_length (row ∷ rows) (line ∷ lines) h = ap suc (pairwise_length rows lines h.1)
+
+means_length : (rows : List (List (List ℕ))) (args : List ℕ) (lines : List Line) → Means rows args lines → length lines ≤ length rows
+means_length rows args lines (Without a h) = omega (arith, pairwise_length rows lines h)
+means_length rows args lines (With first others e a h) = omega (arith, pairwise_length others lines h, ap length e)
+
+filter_length : (test : List (List ℕ) → Bool) (rows : List (List (List ℕ))) → length (filter test rows) ≤ length rows
+filter_length test [] = omega arith
+filter_length test (row ∷ rows) = by (test row) (filter_length test rows)
+  where
+    by : (t : Bool) → length (filter test rows) ≤ length rows → length (cond t (row ∷ filter test rows) (filter test rows)) ≤ length (row ∷ rows)
+    by true h = omega arith
+    by false h = omega arith
+
+-- a schedule has at most one entry a line
+pub few_entries : (text : List (List ℕ)) (args : List ℕ) (lines : List Line) → AreSchedule text args lines → length lines ≤ length text
+unfolding rows_of
+few_entries text args lines s =
+    omega (arith, means_length (rows_of text) args lines s.means, filter_length (λ fields. not (is_passed fields)) (map fields_of text), length-map text fields_of)
 
 -- ---- laws
 

@@ -28,7 +28,7 @@ mixed x = (6364136223846793005 * x + 1442695040888963407) % 2 ^ 64
 -- So many turns of a mix: before each, the next number is drawn, and its upper 31 bits say which thread has the turn.
 unfoldable pub mix_turns : ℕ → ℕ → ℕ → List Happening
 mix_turns threads x zero = []
-mix_turns threads x (suc turns) = turn_of (mixed x / 2 ^ 33 % threads) ∷ mix_turns threads (mixed x) turns
+mix_turns threads x (suc turns) = turn_of ((mixed x / 2 ^ 33) % threads) ∷ mix_turns threads (mixed x) turns
 
 -- the events of one entry
 unfoldable pub events_in : Line → List Happening

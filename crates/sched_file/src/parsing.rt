@@ -1,5 +1,6 @@
 //! Texts read as schedules.
 ghost use Rattle.std.specs.Prelude.{◌≡◌, ◌≤◌, ℕ, length, IfOk, IsErrOf};
+ghost use Rattle.ir_core.specs.Lines.{lines_of};
 ghost use Rattle.sched_file.specs.Schedule.{IsSchedule, UnfitLine};
 ghost use Rattle.sched_file.specs.Events.{events_of};
 ghost use Rattle.sched_file.specs.declared.parsing.SchedError.TheVariants.{Refused, NoMemory};
@@ -80,6 +81,7 @@ impl Schedule {
 pub fn parse_schedule(alloc: Global, bytes: &[u8]) -> Result<Schedule, SchedError>
     requires { length bytes.now ≤ 4194304 }
     ensures schedule { IfOk result (λ s. IsSchedule bytes.now s.args s.lines) }
+    ensures entries { IfOk result (λ s. length s.lines ≤ length (lines_of bytes.now)) }
     ensures unfit { (line : ℕ) → IsErrOf result (Refused line) → UnfitLine bytes.now line }
 {
     let mut draft = Draft::new(alloc);

@@ -6,7 +6,7 @@ use Rattle.sched_file.specs.declared.drafts.Draft.{Draft}
 use Rattle.sched_file.specs.Fields.{rows_of, fields_of}
 use Rattle.sched_file.specs.Schedule.{AreSchedule, UnfitLine}
 use Rattle.sched_file.proofs.Meanings.{Holds}
-use Rattle.sched_file.proofs.SoFar.{nothing_so_far, keeps, refuses, schedule_so_far, have_threads}
+use Rattle.sched_file.proofs.SoFar.{nothing_so_far, keeps, refuses, schedule_so_far, have_threads, few_entries}
 use Rattle.sched_file.proofs.parsing.parse_schedule.Goals as goal
 
 pub lines-init : goal.lines-init
@@ -78,3 +78,11 @@ returns-clause-schedule c =
     let end : length c.lines.rest.now ≡ 0 = eqb-true (length c.lines.rest.now) 0 (sym c.lines-test.ensures) in
     subst (λ (l : List (List ℕ)). AreSchedule l c.lines.draft.args c.lines.draft.lines) (sym (all_done c.args.bytes.now c.lines.rest.now so_far.done so_far.parts end))
     (schedule_so_far so_far.done c.lines.draft so_far.holds)
+
+pub returns-clause-entries : goal.returns-clause-entries
+returns-clause-entries c =
+    let so_far = c.lines.invariant in
+    let end : length c.lines.rest.now ≡ 0 = eqb-true (length c.lines.rest.now) 0 (sym c.lines-test.ensures) in
+    let same = all_done c.args.bytes.now c.lines.rest.now so_far.done so_far.parts end in
+    let few = few_entries so_far.done c.lines.draft.args c.lines.draft.lines (schedule_so_far so_far.done c.lines.draft so_far.holds) in
+    omega (arith, few, ap length same)
