@@ -5,10 +5,12 @@ use std::alloc::Global;
 use std::process::Abort;
 
 /// As many arguments as there may be.
-const MOST_ARGS: &str = "args 0 1 2 3 4 5 6 7 8 9 10 11 12 13 14 15 16 17 18 19 20 21 22 23 24 25 26 27 28 29 30 31 32 33 34 35 36 37 38 39 40 41 42 43 44 45 46 47 48 49 50 51 52 53 54 55 56 57 58 59 60 61 62 63";
+const MOST_ARGS: &str =
+    "args 0 1 2 3 4 5 6 7 8 9 10 11 12 13 14 15 16 17 18 19 20 21 22 23 24 25 26 27 28 29 30 31 32 33 34 35 36 37 38 39 40 41 42 43 44 45 46 47 48 49 50 51 52 53 54 55 56 57 58 59 60 61 62 63";
 
 /// One argument more.
-const TOO_MANY_ARGS: &str = "args 0 1 2 3 4 5 6 7 8 9 10 11 12 13 14 15 16 17 18 19 20 21 22 23 24 25 26 27 28 29 30 31 32 33 34 35 36 37 38 39 40 41 42 43 44 45 46 47 48 49 50 51 52 53 54 55 56 57 58 59 60 61 62 63 64";
+const TOO_MANY_ARGS: &str =
+    "args 0 1 2 3 4 5 6 7 8 9 10 11 12 13 14 15 16 17 18 19 20 21 22 23 24 25 26 27 28 29 30 31 32 33 34 35 36 37 38 39 40 41 42 43 44 45 46 47 48 49 50 51 52 53 54 55 56 57 58 59 60 61 62 63 64";
 
 /// Texts, each with its first unfit line, or 0 where it is a schedule.
 const VERDICTS: [(&str, u32); 69] = [
@@ -25,7 +27,10 @@ const VERDICTS: [(&str, u32); 69] = [
     ("turn 0 18446744073709551615", 1),
     ("turn 0 18446744073709551616", 1),
     ("turn 0 0", 0),
-    ("turn 00 0000000000000000000000000000000000000000000000000000000000000000000001", 0),
+    (
+        "turn 00 0000000000000000000000000000000000000000000000000000000000000000000001",
+        0,
+    ),
     ("turn 0", 1),
     ("turn 0 1 1", 1),
     ("turn", 1),
@@ -53,7 +58,10 @@ const VERDICTS: [(&str, u32); 69] = [
     ("abort 64", 1),
     ("abort", 1),
     ("abort 0 0", 1),
-    ("upset 63 4294967295 m.a 340282366920938463463374607431768211455", 0),
+    (
+        "upset 63 4294967295 m.a 340282366920938463463374607431768211455",
+        0,
+    ),
     ("upset 64 0 m.a 1", 1),
     ("upset 0 4294967296 m.a 1", 1),
     ("upset 0 0 m.a 0", 1),
@@ -107,7 +115,10 @@ fn unfit_line(rt: &impl Abort, alloc: Global, text: &[u8]) -> u32 {
 #[test]
 fn lines_fit_up_to_their_limits(rt: HostRuntime) {
     for (text, line) in VERDICTS {
-        assert!(rt; unfit_line(&rt, rt.alloc(), text.as_bytes()) == line, "for {text:?}");
+        assert!(rt;
+            unfit_line(&rt, rt.alloc(), text.as_bytes()) == line,
+            "for {text:?}"
+        );
     }
     assert!(rt; unfit_line(&rt, rt.alloc(), MOST_ARGS.as_bytes()) == 0);
     assert!(rt; unfit_line(&rt, rt.alloc(), TOO_MANY_ARGS.as_bytes()) == 1);
@@ -176,7 +187,12 @@ fn events_come_in_order(rt: HostRuntime) {
     let alloc = rt.alloc();
     check_events(&rt, alloc, "", &[]);
     check_events(&rt, alloc, "mix 3 0 1", &[(b't', 2)]);
-    check_events(&rt, alloc, "turn 9 0\nround 4 0\nmix 4 5 0\nabort 8", &[(b'a', 8)]);
+    check_events(
+        &rt,
+        alloc,
+        "turn 9 0\nround 4 0\nmix 4 5 0\nabort 8",
+        &[(b'a', 8)],
+    );
     check_events(
         &rt,
         alloc,

@@ -1,24 +1,23 @@
 -- What the fields of the lines say, line by line: one meaning at most, and what one more line changes.
-use Rattle.std.proofs.Common.{◌≡◌, ℕ, zero, suc, ◌+◌, ◌*◌, ◌^◌, ◌<◌, ◌≤◌, Bool, true, false, not, cond, ◌&&◌, nat_lt, nat_le, List, [], ◌∷◌, ◌++◌, length, map, Option, Some, None, refl, sym, ap, subst, ◌∙◌, arith, lit≤, codes, append_assoc}
+use Rattle.std.proofs.Common.{◌≡◌, ℕ, zero, suc, ◌+◌, ◌*◌, ◌^◌, ◌<◌, ◌≤◌, Bool, true, false, not, cond, ◌&&◌, nat_lt, nat_le, List, [], ◌∷◌, ◌++◌, length, map, Some, None, refl, sym, ap, subst, ◌∙◌, arith, lit≤, codes, append_assoc}
 use Rattle.std.specs.Str.{bytes_eq}
-use Rattle.std.specs.List.{AllByRecursion, filter, flat_map, range_with_len}
+use Rattle.std.specs.List.{flat_map, range_with_len}
 use Rattle.std.proofs.lemmas.Bool.{ltb-true, lt-ltb}
 use Rattle.std.proofs.lemmas.Bool.Decides.{nat_tests}
 use Rattle.std.proofs.lemmas.Slice.Eq.{bytes_eq-Decides}
-use Rattle.std.proofs.lemmas.List.{append-nil, length-append, length-replicate, map-append}
-use Rattle.std.proofs.lemmas.List.Elements.{filter-append}
+use Rattle.std.proofs.lemmas.List.{append-nil, length-append, length-replicate}
 use Rattle.std.proofs.lemmas.List.FromFn.{length-map-range_with_len}
 use Rattle.std.proofs.lemmas.Grind.{flat_map-append}
 use Rattle.sched_file.specs.declared.entries.Line.{Line}
 use Rattle.sched_file.specs.declared.entries.Line.TheVariants as entries
 use Rattle.sched_file.specs.declared.drafts.Draft.{Draft}
-use Rattle.sched_file.specs.Fields.{is_filled, fields_of, is_comment, is_passed, rows_of}
+use Rattle.sched_file.specs.Fields.{is_filled, is_passed}
 use Rattle.sched_file.specs.Entries.{IsNumber, IsEntry, Turns, Rounds, Mixes, Aborts, Upsets}
-use Rattle.sched_file.specs.Events.{Happening, turn_of, round_turns, mixed, mix_turns, events_in, events_of, HasThread}
-use Rattle.sched_file.specs.Schedule.{Pairwise, AreArgs, Means, Without, With, AreSchedule}
+use Rattle.sched_file.specs.Events.{turn_of, round_turns, mixed, mix_turns, events_in, events_of}
+use Rattle.sched_file.specs.Schedule.{Pairwise, AreArgs, Means, Without, With}
 use Rattle.sched_file.specs.Reading.{◌>>=◌, number_below, args_from, event_count, with_args, with_line, taken, entry_of}
 use Rattle.sched_file.proofs.Digits.{bind_some, when_some, some, some_is, both_true, number_below_found, number_below_again}
-use Rattle.sched_file.proofs.Readings.{entry_found, entry_in, entry_again, same_entry}
+use Rattle.sched_file.proofs.Readings.{entry_found, entry_again, same_entry}
 
 -- ---- place by place
 
@@ -138,9 +137,10 @@ same_meaning rows args others lines again (With first rest e a h) (Without b k) 
 same_meaning rows args others lines again (With first rest e a h) (With second more f b k) =
     let both = sym e ∙ f in
     let same : first ≡ second = cc in
-    let left : rest ≡ more = cc in
-    (same_args second args others (subst (λ (fs : List (List ℕ)). AreArgs fs args) same a) b,
-     pairwise_same IsEntry same_entry more lines again (subst (λ (rs : List (List (List ℕ))). Pairwise IsEntry rs lines) left h) k)
+    let left : rest ≡ more = cc in (
+      same_args second args others (subst (λ (fs : List (List ℕ)). AreArgs fs args) same a) b,
+      pairwise_same IsEntry same_entry more lines again (subst (λ (rs : List (List (List ℕ))). Pairwise IsEntry rs lines) left h) k,
+    )
 
 -- ---- the front of a schedule
 
@@ -312,10 +312,11 @@ refused_args rows draft word fields args h e a =
     let first : word ≡ codes "args" = let k = a.whole in cc in
     let numbers : fields ≡ a.numbers = let k = a.whole in cc in
     let fresh : draft.begun ≡ false = h.begun ∙ ap (λ (rs : List (List (List ℕ))). is_filled rs) e in
-    let values : Pairwise (IsNumber (2 ^ 64)) fields args = subst (λ (fs : List (List ℕ)). Pairwise (IsNumber (2 ^ 64)) fs args) (sym numbers) a.values in
-    (ap (λ b. not b && bytes_eq word (codes "args")) fresh ∙ (bytes_eq-Decides word (codes "args")).1 first,
-     record draft { args = args; begun = true },
-     ap (λ o. o >>= λ xs. some (record draft { args = xs; begun = true })) (args_again [] fields args values a.few))
+    let values : Pairwise (IsNumber (2 ^ 64)) fields args = subst (λ (fs : List (List ℕ)). Pairwise (IsNumber (2 ^ 64)) fs args) (sym numbers) a.values in (
+      ap (λ b. not b && bytes_eq word (codes "args")) fresh ∙ (bytes_eq-Decides word (codes "args")).1 first,
+      record draft { args = args; begun = true },
+      ap (λ o. o >>= λ xs. some (record draft { args = xs; begun = true })) (args_again [] fields args values a.few),
+    )
 
 refused_entry : (rows : List (List (List ℕ))) (draft : Draft) (word : List ℕ) (fields : List (List ℕ)) (args : List ℕ) (front : List Line) (line : Line) → Holds rows draft → Means rows args front → IsEntry (word ∷ fields) line
     → length (events_of (front ++ line ∷ [])) ≤ 4194304 → (gives_args draft word ≡ false) × (after : Draft) × ((entry_of word fields >>= with_line draft) ≡ Some after)
@@ -323,10 +324,11 @@ unfolding with_line
 refused_entry rows draft word fields args front line h m k few =
     let same : draft.lines ≡ front = (same_meaning rows draft.args args draft.lines front h.means m).1 in
     let le : draft.events + event_count line ≤ 4194304 = omega (arith, h.events, ap (λ (l : List Line). length (events_of l)) same, more_events front (line ∷ []), one_entry line, few) in
-    let after : Draft = record draft { lines = draft.lines ++ line ∷ []; events = draft.events + event_count line; begun = true } in
-    (ap (λ b. not draft.begun && b) (not_args word fields line k) ∙ neither (not draft.begun),
-     after,
-     ap (λ o. o >>= with_line draft) (entry_again (word ∷ fields) line k) ∙ ap (λ t. cond t (some after) None) (passes (draft.events + event_count line) le))
+    let after : Draft = record draft { lines = draft.lines ++ line ∷ []; events = draft.events + event_count line; begun = true } in (
+      ap (λ b. not draft.begun && b) (not_args word fields line k) ∙ neither (not draft.begun),
+      after,
+      ap (λ o. o >>= with_line draft) (entry_again (word ∷ fields) line k) ∙ ap (λ t. cond t (some after) None) (passes (draft.events + event_count line) le),
+    )
   where
     neither : (b : Bool) → (b && false) ≡ false
     neither true = refl

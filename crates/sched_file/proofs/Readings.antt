@@ -1,5 +1,5 @@
 -- What is read of the fields of a line is what they stand for, and what they stand for is read.
-use Rattle.std.proofs.Common.{◌≡◌, ℕ, zero, suc, ◌+◌, ◌*◌, ◌^◌, ◌<◌, ◌≤◌, Bool, true, false, cond, ◌&&◌, nat_lt, eqb, List, [], ◌∷◌, ◌++◌, Option, Some, None, refl, sym, ap, subst, ◌∙◌, arith, lit≤, codes, ◌⊎◌, inl, inr}
+use Rattle.std.proofs.Common.{◌≡◌, ℕ, ◌^◌, ◌<◌, ◌≤◌, Bool, true, false, cond, ◌&&◌, nat_lt, eqb, List, [], ◌∷◌, Option, Some, None, refl, sym, ap, subst, ◌∙◌, arith, lit≤, codes, ◌⊎◌, inl, inr}
 use Rattle.std.specs.Str.{bytes_eq}
 use Rattle.std.proofs.lemmas.Bool.{eqb-true, ltb-true, lt-ltb}
 use Rattle.std.proofs.lemmas.Slice.Eq.{bytes_eq-Decides}
@@ -231,10 +231,10 @@ unfolding entry_of
 entry_found word fields line e =
     let P : Type 0 = IsEntry (word ∷ fields) line in
     chosen word (codes "turn") _ _ line P e (turn_found word fields line) (λ e.
-        chosen word (codes "round") _ _ line P e (round_found word fields line) (λ e.
-            chosen word (codes "mix") _ _ line P e (mix_found word fields line) (λ e.
-                chosen word (codes "abort") _ _ line P e (abort_found word fields line) (λ e.
-                    chosen word (codes "upset") _ None line P e (upset_found word fields line) (λ e. absurd cc)))))
+    chosen word (codes "round") _ _ line P e (round_found word fields line) (λ e.
+    chosen word (codes "mix") _ _ line P e (mix_found word fields line) (λ e.
+    chosen word (codes "abort") _ _ line P e (abort_found word fields line) (λ e.
+    chosen word (codes "upset") _ None line P e (upset_found word fields line) (λ e. absurd cc)))))
 
 -- the entry of a line with these fields
 abbrev pub entry_in : List (List ℕ) → Option Line

@@ -1,5 +1,5 @@
 -- The turns of one entry that are left, drawn one by one.
-use Rattle.std.proofs.Common.{◌≡◌, ℕ, zero, suc, ◌+◌, ◌-◌, ◌<◌, ◌≤◌, List, [], ◌∷◌, ◌++◌, length, map, refl, sym, ap, subst, ◌∙◌, arith}
+use Rattle.std.proofs.Common.{◌≡◌, ℕ, zero, suc, ◌-◌, ◌<◌, ◌≤◌, List, [], ◌∷◌, ◌++◌, length, map, refl, sym, ap, subst, ◌∙◌, arith}
 use Rattle.std.proofs.lemmas.List.{nil_from_length}
 use Rattle.std.specs.List.{range_with_len, flat_map, AllByRecursion}
 use Rattle.ir_core.specs.declared.types.Tid.{Tid}
@@ -8,7 +8,7 @@ use Rattle.sched_file.specs.declared.entries.Line.{Line}
 use Rattle.sched_file.specs.declared.entries.Line.TheVariants as entries
 use Rattle.sched_file.specs.declared.drawing.Pending.{Pending}
 use Rattle.sched_file.specs.declared.drawing.Pending.TheVariants as pending
-use Rattle.sched_file.specs.Events.{Happening, TurnOf, AbortOf, UpsetBy, turn_of, round_turns, events_in, events_of, HasThread}
+use Rattle.sched_file.specs.Events.{Happening, AbortOf, UpsetBy, turn_of, round_turns, events_in, events_of, HasThread}
 use Rattle.sched_file.specs.Pending.{turns_left}
 
 -- Where all threads of the last round have had their turn, none is left.

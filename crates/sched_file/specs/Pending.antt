@@ -1,5 +1,5 @@
 -- The turns of one entry that are left, and the entries of which they can be.
-use Rattle.std.specs.Prelude.{ℕ, ◌≤◌, ◌-◌, List, ◌++◌, map, replicate}
+use Rattle.std.specs.Prelude.{◌≤◌, ◌-◌, List, ◌++◌, map, replicate}
 use Rattle.std.specs.List.{range_with_len}
 use Rattle.sched_file.specs.declared.drawing.Pending.{Pending}
 use Rattle.sched_file.specs.declared.drawing.Pending.TheVariants as pending

@@ -112,11 +112,11 @@ upset_entry fields = do
 -- the entry of a line with these fields
 unfoldable pub entry_of : List ℕ → List (List ℕ) → Option Line
 entry_of word fields = if bytes_eq word (codes "turn") then turn_entry fields
-  else if bytes_eq word (codes "round") then round_entry fields
-  else if bytes_eq word (codes "mix") then mix_entry fields
-  else if bytes_eq word (codes "abort") then abort_entry fields
-  else if bytes_eq word (codes "upset") then upset_entry fields
-  else None
+    else if bytes_eq word (codes "round") then round_entry fields
+    else if bytes_eq word (codes "mix") then mix_entry fields
+    else if bytes_eq word (codes "abort") then abort_entry fields
+    else if bytes_eq word (codes "upset") then upset_entry fields
+    else None
 
 -- ---- a line behind others
 
@@ -143,5 +143,5 @@ with_line draft line = if nat_le (draft.events + event_count line) 4194304 then 
 unfoldable pub taken : Draft → List (List ℕ) → Option Draft
 taken draft [] = Some draft
 taken draft (word ∷ fields) = if is_comment word then Some draft
-  else if not draft.begun && bytes_eq word (codes "args") then with_args draft fields
-  else entry_of word fields >>= with_line draft
+    else if not draft.begun && bytes_eq word (codes "args") then with_args draft fields
+    else entry_of word fields >>= with_line draft

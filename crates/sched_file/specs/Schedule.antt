@@ -6,7 +6,7 @@ use Rattle.sched_file.specs.Fields.{rows_of}
 use Rattle.sched_file.specs.Entries.{IsNumber, IsEntry}
 use Rattle.sched_file.specs.Events.{events_of}
 
--- what contracts see of a schedule: its arguments, and an entry for each line that has events or could have
+-- what contracts see of a schedule: its arguments, and an entry for each line that isn't passed over and gives no arguments
 pub record ScheduleParts : Type 0 where
   pub args : List ℕ
   pub lines : List Line

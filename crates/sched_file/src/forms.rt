@@ -2,7 +2,6 @@
 ghost use Rattle.std.specs.Prelude.{◌≡◌, ◌<◌, ◌^◌, ◌∷◌, IfSome, IfOk};
 ghost use Rattle.std.specs.Option.{option_map};
 ghost use Rattle.sched_file.specs.Reading.{number_at, thread_at, threads_at, register_at, mask_at, turn_entry, round_entry, mix_entry, abort_entry, upset_entry, entry_of};
-
 ghost use Rattle.sched_file.specs.Upsets.{upset_of};
 
 use crate::cutting::Fields;

@@ -18,7 +18,9 @@ fn with_digit(number: u128, digit: u8) -> Option<u128>
     if !digit.is_ascii_digit() {
         return None;
     }
-    number.checked_mul(10)?.checked_add(u128::from(digit - b'0'))
+    number
+        .checked_mul(10)?
+        .checked_add(u128::from(digit - b'0'))
 }
 
 /// The number that the field writes, below two to the power of 128.

@@ -1,4 +1,4 @@
-use Rattle.std.proofs.Common.{◌+◌, ◌-◌, List, ℕ, ◌∷◌, sym, ap, ◌∙◌, take, drop}
+use Rattle.std.proofs.Common.{◌+◌, List, ℕ, ◌∷◌, sym, ap, ◌∙◌, take, drop}
 use Rattle.std.proofs.lemmas.List.{take_rest}
 use Rattle.ir_core.specs.Lines.{lines_of}
 use Rattle.sched_file.proofs.Fronts.{lines_first, lines_only}

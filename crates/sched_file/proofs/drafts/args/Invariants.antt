@@ -1,4 +1,4 @@
-use Rattle.std.proofs.Common.{◌≡◌, ◌≤◌, [], length}
+use Rattle.std.proofs.Common.{◌≡◌, [], length}
 use Rattle.sched_file.specs.Reading.{args_from}
 use Rattle.sched_file.proofs.drafts.args.Given as goal
 

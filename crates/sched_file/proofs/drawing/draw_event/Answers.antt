@@ -1,6 +1,5 @@
 use Rattle.std.proofs.Common.{◌∷◌, ap, ◌∙◌, arith}
 use Rattle.sched_file.specs.declared.entries.Line.{Line}
-use Rattle.sched_file.specs.Events.{events_of}
 use Rattle.sched_file.proofs.Turns.{opened, opened_once, ended, of_turn, of_round, of_mix, of_abort, of_upset, first_thread}
 use Rattle.sched_file.proofs.drawing.draw_event.Goals as goal
 

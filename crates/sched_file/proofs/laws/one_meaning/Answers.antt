@@ -1,4 +1,4 @@
-use Rattle.sched_file.proofs.Meanings.{same_meaning, kept, refused, front_means}
+use Rattle.sched_file.proofs.Meanings.{same_meaning}
 use Rattle.sched_file.proofs.laws.one_meaning.Goals as goal
 
 pub returns : goal.returns

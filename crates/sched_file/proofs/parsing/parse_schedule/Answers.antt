@@ -2,9 +2,8 @@ use Rattle.std.proofs.Common.{◌≡◌, ℕ, ◌+◌, Bool, true, false, MatchB
 use Rattle.std.proofs.lemmas.List.{append-nil, length-append, nil_from_length}
 use Rattle.std.proofs.lemmas.Bool.{eqb-true}
 use Rattle.ir_core.specs.Lines.{lines_of}
-use Rattle.sched_file.specs.declared.drafts.Draft.{Draft}
-use Rattle.sched_file.specs.Fields.{rows_of, fields_of}
-use Rattle.sched_file.specs.Schedule.{AreSchedule, UnfitLine}
+use Rattle.sched_file.specs.Fields.{rows_of}
+use Rattle.sched_file.specs.Schedule.{AreSchedule}
 use Rattle.sched_file.proofs.Meanings.{Holds}
 use Rattle.sched_file.proofs.SoFar.{nothing_so_far, keeps, refuses, schedule_so_far, have_threads, few_entries}
 use Rattle.sched_file.proofs.parsing.parse_schedule.Goals as goal
