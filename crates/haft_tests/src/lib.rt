@@ -17,4 +17,6 @@ mod parts;
 #[cfg(test)]
 mod pieces;
 #[cfg(test)]
+mod schedules;
+#[cfg(test)]
 mod texts;

@@ -1,0 +1,6 @@
+pub mod Fronts
+pub mod Turns
+pub mod Digits
+pub mod Readings
+pub mod Meanings
+pub mod SoFar

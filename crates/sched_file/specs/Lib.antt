@@ -1,0 +1,9 @@
+pub mod Fields
+pub mod Entries
+pub mod Events
+pub mod Schedule
+pub mod Cutting
+pub mod Reading
+pub mod Upsets
+pub mod Pending
+pub mod Shown
