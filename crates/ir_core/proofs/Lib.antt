@@ -9,3 +9,4 @@ pub mod TokenLaws
 pub mod LongestName
 pub mod DroppedLines
 pub mod LineLaws
+pub mod TokenPlaces

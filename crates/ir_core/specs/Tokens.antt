@@ -1,6 +1,6 @@
 -- Tokens: what they are, and which stand on a line.
 use Rattle.std.specs.Prelude.{ℕ, ◌≡◌, ◌+◌, ◌≤◌, ◌==◌, ◌&&◌, ◌||◌, ◌⊎◌, not, nat_le, if◌then◌else◌, Bool, true, false, IsTrue, List, [], ◌∷◌, ◌++◌, length, drop, codes}
-use Rattle.std.specs.List.{list_all}
+use Rattle.std.specs.List.{list_all, AllByRecursion}
 use Rattle.ir_core.specs.declared.text.TokKind.{TokKind}
 use Rattle.ir_core.specs.declared.text.TokKind.TheVariants.{Word, Local, At, Label, Num, Bytes, Str, Hash, Bang, Punct}
 use Rattle.ir_core.specs.declared.text.Token.{Token}
@@ -142,3 +142,15 @@ HasTokens line tokens = Tokens true 0 line tokens
 
 abbrev pub HasBadColumn : List ℕ → ℕ → Type 0
 HasBadColumn line column = BadColumn true 0 line column
+
+-- ---- where tokens lie
+
+-- the token lies within a text of so many bytes
+pub record IsWithin (size : ℕ) (t : Token) : Type 0 where
+  pub ordered : t.start ≤ t.end
+  pub inside : t.end ≤ size
+
+-- the tokens lie within a text of so many bytes, and are no more than these
+pub record AreWithin (size : ℕ) (tokens : List Token) : Type 0 where
+  pub each : AllByRecursion (IsWithin size) tokens
+  pub count : length tokens ≤ size

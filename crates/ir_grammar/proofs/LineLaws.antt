@@ -305,8 +305,8 @@ switch_cases_law : (w : Width) → IsRead Anywhere (switch_cases w)
 unfolding switch_cases
 switch_cases_law w = then_law (punct_law open_bracket) (λ _ front m.
     then_other (λ t. not (is_punct close_bracket t)) (seen_law (λ others. others) _ (star_heads (λ t. not (is_punct close_bracket t)) (arm_of_switch_law w) (arm_refuses w) (arm_of_switch_empty w)))
-      (λ cases front m. then_law (punct_law close_bracket) (λ _ front m. gives_law cases))
-      (λ cases front m t e. then_refuses (punct close_bracket) _ t (punct_refuses close_bracket t (open_still (is_punct close_bracket t) e))))
+    (λ cases front m. then_law (punct_law close_bracket) (λ _ front m. gives_law cases))
+    (λ cases front m t e. then_refuses (punct close_bracket) _ t (punct_refuses close_bracket t (open_still (is_punct close_bracket t) e))))
 
 switching_law : IsRead AtEnd switching
 unfolding switching

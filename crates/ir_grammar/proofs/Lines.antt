@@ -1,5 +1,5 @@
 -- What a part that goes to the end of the line means of all tokens: one value, or one unfit place.
-use Rattle.std.proofs.Common.{ℕ, suc, ◌≡◌, ◌-◌, ◌<◌, List, [], ◌∷◌, ◌++◌, length, Ok, Err, refl, sym, ap, subst, ◌∙◌, append_assoc, length-append, arith}
+use Rattle.std.proofs.Common.{◌≤◌, ℕ, suc, ◌≡◌, ◌-◌, ◌<◌, List, [], ◌∷◌, ◌++◌, length, Ok, Err, refl, sym, ap, subst, ◌∙◌, append_assoc, length-append, arith}
 use Rattle.std.proofs.Common.{⊎_elim}
 use Rattle.std.proofs.lemmas.Bool.{cases_lt}
 use Rattle.ir_grammar.specs.Parts.{Tok, Read, Part, Begins, IsUnfit, Verdict, Stands, Unfit}
@@ -39,6 +39,9 @@ module _ {A : Type 0} {p : Part A} (law : IsRead AtEnd p) where
         unfit = not_begun s.front s.stop s.same;
         nothing = λ v h. not_meant ts n v e h;
       }
+
+  pub left_within : (ts : List Tok) (n : ℕ) → p.reads ts ≡ Err n → n ≤ length ts
+  left_within ts n e = let s = law.stops ts n e in omega (arith, ap length s.whole, length-append s.front s.stop, s.left)
 
   pub verdict : (ts : List Tok) → Verdict p.means ts
   verdict ts = by (p.reads ts) refl

@@ -203,16 +203,16 @@ const_operands_law : IsRead Anywhere const_operands
 unfolding const_operands
 const_operands_law =
     then_law (punct_law comma) (λ _ front m. then_law (keyword_law (codes "ptr")) (λ _ front m. then_law symbol_law (λ sym front m. then_law (punct_law comma) (λ _ front m. then_law constant_index_law (λ index front m.
-      then_other (is_punct comma) (seen_law (λ others. index ∷ others) _ (comma_row_law constant_index_law))
-        (λ all front m. then_law (punct_law close_paren) (λ _ front m. gives_law (sym, all)))
-        (λ all front m t e. closes close_paren _ (λ at. refl) t e))))))
+    then_other (is_punct comma) (seen_law (λ others. index ∷ others) _ (comma_row_law constant_index_law))
+    (λ all front m. then_law (punct_law close_paren) (λ _ front m. gives_law (sym, all)))
+    (λ all front m t e. closes close_paren _ (λ at. refl) t e))))))
 
 pub const_gep_law : (inner : ℕ) → IsRead Anywhere (const_gep inner)
 unfolding const_gep
 const_gep_law inner =
     then_other (λ t. is_some (flag_of Gep t)) (flags_law Gep)
-      (λ kept front m. then_law (punct_law open_paren) (λ _ front m. then_law (typ_law inner) (λ base front m. then_law const_operands_law (λ x front m. gives_law _))))
-      (λ kept front m t e. then_refuses (punct open_paren) _ t (one_refuses (λ t. known (is_punct open_paren t)) t (flag_is_no_punct gep_flags open_paren t e)))
+    (λ kept front m. then_law (punct_law open_paren) (λ _ front m. then_law (typ_law inner) (λ base front m. then_law const_operands_law (λ x front m. gives_law _))))
+    (λ kept front m t e. then_refuses (punct open_paren) _ t (one_refuses (λ t. known (is_punct open_paren t)) t (flag_is_no_punct gep_flags open_paren t e)))
 
 value_rest_law : (inner : ℕ) (h : ValueHead) → IsRead Anywhere (value_rest inner h)
 value_rest_law inner (values.Reg loc) = gives_law _

@@ -237,9 +237,13 @@ line_without plain.Unreachable = finished insts.Unreachable
 unfoldable pub result_line : Part Inst
 result_line = local >>= λ dst. punct equals >>= λ _. one (in_table result_opcode_word) >>= line_with dst
 
+-- a line that begins with its opcode
+abbrev pub plain_line : Part Inst
+plain_line = one (in_table plain_opcode_word) >>= line_without
+
 -- an instruction line
 unfoldable pub instruction : Part Inst
-instruction = either (starts is_local) result_line (one (in_table plain_opcode_word) >>= line_without)
+instruction = either (starts is_local) result_line plain_line
 
 -- the tokens of a line stand for the instruction
 abbrev pub IsInstruction : List Tok → Inst → Type 0

@@ -1,10 +1,18 @@
 -- Single tokens, and the parts that they are.
-use Rattle.std.specs.Prelude.{ℕ, ◌+◌, Bool, true, false, List, [], ◌∷◌, Option, Some, None}
+use Rattle.std.specs.Prelude.{ℕ, ◌+◌, Bool, true, false, List, [], ◌∷◌, Option, Some, None, ◌-◌, take, drop, map}
 use Rattle.std.specs.Str.{bytes_eq}
 use Rattle.std.specs.List.{list_any}
+use Rattle.ir_core.specs.declared.text.Token.{Token}
 use Rattle.ir_core.specs.declared.text.TokKind.TheVariants.{Word, Local, Hash, Bang, Punct}
 use Rattle.ir_core.specs.declared.types.Loc.{Loc}
 use Rattle.ir_grammar.specs.Parts.{Tok, Part, one}
+
+-- a token of a text, with its own text
+abbrev pub token_of : List ℕ → Token → Tok
+token_of text t = record { kind = t.kind; text = take (t.end - t.start) (drop t.start text); at = t.start }
+
+abbrev pub tokens_of : List ℕ → List Token → List Tok
+tokens_of text tokens = map (token_of text) tokens
 
 -- the text of a token that is a word
 abbrev pub word_of : Tok → Option (List ℕ)

@@ -128,8 +128,12 @@ abbrev pub or_else : {A : Type 0} → Option A → Option A → Option A
 or_else None b = b
 or_else (Some a) b = Some a
 
+-- the opcodes beside operators and casts
+abbrev pub other_opcode_word : List ℕ → Option ResultOpcode
+other_opcode_word = entry ((codes "icmp", results.Icmp) ∷ (codes "select", results.Select) ∷ (codes "getelementptr", results.Gep) ∷ (codes "alloca", results.Alloca) ∷ (codes "load", results.Load) ∷ (codes "atomicrmw", results.Rmw) ∷ (codes "cmpxchg", results.CmpXchg) ∷ (codes "extractvalue", results.Extract) ∷ (codes "call", results.Call) ∷ (codes "tail", results.MarkedCall) ∷ (codes "notail", results.MarkedCall) ∷ (codes "phi", results.Phi) ∷ [])
+
 abbrev pub result_opcode_word : List ℕ → Option ResultOpcode
-result_opcode_word word = or_else (option_map results.Bin (binop_word word)) (or_else (option_map results.Cast (cast_word word)) (entry ((codes "icmp", results.Icmp) ∷ (codes "select", results.Select) ∷ (codes "getelementptr", results.Gep) ∷ (codes "alloca", results.Alloca) ∷ (codes "load", results.Load) ∷ (codes "atomicrmw", results.Rmw) ∷ (codes "cmpxchg", results.CmpXchg) ∷ (codes "extractvalue", results.Extract) ∷ (codes "call", results.Call) ∷ (codes "tail", results.MarkedCall) ∷ (codes "notail", results.MarkedCall) ∷ (codes "phi", results.Phi) ∷ []) word))
+result_opcode_word word = or_else (option_map results.Bin (binop_word word)) (or_else (option_map results.Cast (cast_word word)) (other_opcode_word word))
 
 abbrev pub plain_opcode_word : List ℕ → Option PlainOpcode
 plain_opcode_word = entry ((codes "store", plain.Store) ∷ (codes "fence", plain.Fence) ∷ (codes "call", plain.Call) ∷ (codes "tail", plain.MarkedCall) ∷ (codes "notail", plain.MarkedCall) ∷ (codes "br", plain.Br) ∷ (codes "switch", plain.Switch) ∷ (codes "ret", plain.Ret) ∷ (codes "unreachable", plain.Unreachable) ∷ [])

@@ -1,6 +1,6 @@
 //! Lines, cut into tokens from the left.
 ghost use Rattle.std.specs.Prelude.{◌≡◌, ◌≤◌, ℕ, length, IfOk, IsErrOf};
-ghost use Rattle.ir_core.specs.Tokens.{HasTokens, HasBadColumn};
+ghost use Rattle.ir_core.specs.Tokens.{HasTokens, HasBadColumn, AreWithin};
 ghost use Rattle.ir_lex.specs.declared.lex.LexError.TheVariants.{BadByte, NoMemory};
 
 use crate::Token;
@@ -37,6 +37,15 @@ impl<T: Drop> From<AllocFailed<T>> for LexError {
 
 /// The tokens of a line, or the first column at which no token begins.
 pub fn lex_line(alloc: Global, line: &[u8]) -> Result<Vec<Token>, LexError>
+    requires { length line.now ≤ 4194304 }
+    ensures tokens { IfOk result (λ tokens. HasTokens line.now tokens.items) }
+    ensures bad { (column : ℕ) → IsErrOf result (BadByte column) → HasBadColumn line.now column }
+    ensures within { IfOk result (λ tokens. AreWithin (length line.now) tokens.items) }
+{
+    cut(alloc, line)
+}
+
+fn cut(alloc: Global, line: &[u8]) -> Result<Vec<Token>, LexError>
     requires { length line.now ≤ 4194304 }
     ensures tokens { IfOk result (λ tokens. HasTokens line.now tokens.items) }
     ensures bad { (column : ℕ) → IsErrOf result (BadByte column) → HasBadColumn line.now column }

@@ -4,9 +4,7 @@ ghost use Rattle.ir_grammar.specs.Lines.{binary, comparison, selection, conversi
 ghost use Rattle.ir_grammar.specs.Words.{pred_word, rmw_word};
 ghost use Rattle.ir_parse_parts.specs.Reads.{Gave, Filled};
 
-use crate::operands::{
-    comma_operand, comma_pointer, comma_same, finish, finish_aligned, pointer,
-};
+use crate::operands::{comma_operand, comma_pointer, comma_same, finish, finish_aligned, pointer};
 use ir_core::{BinOp, CastOp, Inst, Loc, Pred, RmwOp, Ty, Width};
 use ir_grammar::FlagSet;
 use ir_parse_parts::{Reader, Stop, word_table};

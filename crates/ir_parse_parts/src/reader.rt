@@ -1,8 +1,9 @@
 //! The tokens of a line that are left, and single tokens.
-ghost use Rattle.std.specs.Prelude.{◌≡◌, Bool, true, not, Ok, length, drop};
+ghost use Rattle.std.specs.Prelude.{◌≡◌, ◌≤◌, Bool, true, not, Ok, length, drop};
 ghost use Rattle.std.specs.Option.{option_map, option_and_then};
-ghost use Rattle.ir_grammar.specs.Tokens.{word_of, is_punct, is_word, is_bang, is_hash, is_local, punct, bang, keyword, local};
+ghost use Rattle.ir_grammar.specs.Tokens.{tokens_of, word_of, is_punct, is_word, is_bang, is_hash, is_local, punct, bang, keyword, local};
 ghost use Rattle.ir_parse_parts.specs.declared.stops.Stop.TheVariants.{Unfit};
+ghost use Rattle.ir_core.specs.Tokens.{AreWithin};
 ghost use Rattle.ir_grammar.specs.Parts.{first, taken, heads, optional, ends};
 ghost use Rattle.ir_parse_parts.specs.Reads.{Gave, Passed};
 ghost use Rattle.ir_parse_parts.specs.Views.{tok_view};
@@ -23,16 +24,30 @@ pub struct Reader<'a> {
 impl<'a> Model for Reader<'a> {
     ghost use Rattle.std.specs.Prelude.{List};
     ghost use Rattle.ir_grammar.specs.Parts.{Tok};
-    ghost use Rattle.ir_parse_parts.specs.Views.{tokens_of, AreWithin};
+    ghost use Rattle.ir_grammar.specs.Tokens.{tokens_of};
+    ghost use Rattle.ir_parse_parts.specs.Kept.{IsKept};
 
     ghost Value = { List Tok };
 
     ghost view = { λ r. tokens_of r.line.now r.tokens.now };
 
-    ghost invariant = { λ r. AreWithin r.line.now r.tokens.now };
+    ghost invariant = { λ r. IsKept r.line.now r.tokens.now };
 }
 
 impl<'a> Reader<'a> {
+    /// A reader of all tokens of a line.
+    pub fn new(alloc: Global, line: &'a [u8], tokens: &'a [Token]) -> Reader<'a>
+        requires short { length line.now ≤ 4194304 }
+        requires within { AreWithin (length line.now) tokens.now }
+        ensures { result ≡ tokens_of line.now tokens.now }
+    {
+        Reader {
+            alloc,
+            line,
+            tokens,
+        }
+    }
+
     /// The next token.
     pub fn peek(&self) -> Option<Tok<'a>>
         ensures { option_map tok_view result ≡ first self.now }

@@ -9,7 +9,7 @@ use Rattle.ir_parse_body.proofs.lists.more_arguments.Goals as goal
 pub more-preserved : goal.more-preserved
 more-preserved c =
     rw c.in_ok-push.ensures.ok
-      (turns_more (comma_turns argument_law) c.more.arguments c.more.reader c.argument.new.reader c.in_ok-argument.field-0 (sym c.more-test.ensures) (comma_then argument c.more.reader c.punct.new.self c.in_ok-punct.ensures c.in_ok-argument.ensures) ∙ c.more.invariant)
+    (turns_more (comma_turns argument_law) c.more.arguments c.more.reader c.argument.new.reader c.in_ok-argument.field-0 (sym c.more-test.ensures) (comma_then argument c.more.reader c.punct.new.self c.in_ok-punct.ensures c.in_ok-argument.ensures) ∙ c.more.invariant)
 
 pub more-smaller : goal.more-smaller
 more-smaller c = (comma_turns argument_law).shrinks c.more.reader c.argument.new.reader c.in_ok-argument.field-0 (sym c.more-test.ensures) (comma_then argument c.more.reader c.punct.new.self c.in_ok-punct.ensures c.in_ok-argument.ensures)

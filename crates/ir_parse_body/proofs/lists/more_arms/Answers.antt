@@ -8,7 +8,7 @@ use Rattle.ir_parse_body.proofs.lists.more_arms.Goals as goal
 pub more-preserved : goal.more-preserved
 more-preserved c =
     rw c.in_ok-push.ensures.ok
-      (turns_more (arm_turns c.args.ty.now) c.more.arms c.more.reader c.arm.new.reader c.in_ok-arm.field-0 (sym c.more-test.ensures) (comma_then (arm c.args.ty.now) c.more.reader c.punct.new.self c.in_ok-punct.ensures c.in_ok-arm.ensures) ∙ c.more.invariant)
+    (turns_more (arm_turns c.args.ty.now) c.more.arms c.more.reader c.arm.new.reader c.in_ok-arm.field-0 (sym c.more-test.ensures) (comma_then (arm c.args.ty.now) c.more.reader c.punct.new.self c.in_ok-punct.ensures c.in_ok-arm.ensures) ∙ c.more.invariant)
 
 pub more-smaller : goal.more-smaller
 more-smaller c = (arm_turns c.args.ty.now).shrinks c.more.reader c.arm.new.reader c.in_ok-arm.field-0 (sym c.more-test.ensures) (comma_then (arm c.args.ty.now) c.more.reader c.punct.new.self c.in_ok-punct.ensures c.in_ok-arm.ensures)

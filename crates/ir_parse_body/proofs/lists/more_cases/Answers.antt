@@ -7,7 +7,7 @@ use Rattle.ir_parse_body.proofs.lists.more_cases.Goals as goal
 pub more-preserved : goal.more-preserved
 more-preserved c =
     rw c.in_ok-push.ensures.ok
-      (turns_more (case_turns c.args.width) c.more.cases c.more.reader c.arm_of_switch.new.reader c.in_ok-arm_of_switch.field-0 (sym c.more-test.ensures) (c.in_ok-arm_of_switch.ensures) ∙ c.more.invariant)
+    (turns_more (case_turns c.args.width) c.more.cases c.more.reader c.arm_of_switch.new.reader c.in_ok-arm_of_switch.field-0 (sym c.more-test.ensures) (c.in_ok-arm_of_switch.ensures) ∙ c.more.invariant)
 
 pub more-smaller : goal.more-smaller
 more-smaller c = (case_turns c.args.width).shrinks c.more.reader c.arm_of_switch.new.reader c.in_ok-arm_of_switch.field-0 (sym c.more-test.ensures) (c.in_ok-arm_of_switch.ensures)

@@ -7,7 +7,7 @@ use Rattle.ir_parse_body.proofs.lists.more_indices.Goals as goal
 pub more-preserved : goal.more-preserved
 more-preserved c =
     rw c.in_ok-push.ensures.ok
-      (turns_more (index_turns) c.more.indices c.more.reader c.index.new.reader c.in_ok-index.field-0 (sym c.more-test.ensures) (c.in_ok-index.ensures) ∙ c.more.invariant)
+    (turns_more (index_turns) c.more.indices c.more.reader c.index.new.reader c.in_ok-index.field-0 (sym c.more-test.ensures) (c.in_ok-index.ensures) ∙ c.more.invariant)
 
 pub more-smaller : goal.more-smaller
 more-smaller c = (index_turns).shrinks c.more.reader c.index.new.reader c.in_ok-index.field-0 (sym c.more-test.ensures) (c.in_ok-index.ensures)

@@ -1,7 +1,7 @@
 use Rattle.std.proofs.Common.{ℕ, ◌-◌, ◌≤◌, List, ◌++◌, length, drop}
 use Rattle.ir_core.specs.Tokens.{Tokens, BadColumn, HasTokens, HasBadColumn}
 use Rattle.ir_core.specs.declared.text.Token.{Token}
-use Rattle.ir_lex.proofs.lex.lex_line.Given as goal
+use Rattle.ir_lex.proofs.lex.cut.Given as goal
 
 -- what is left of the line has the rest of its tokens, and its bad column
 abbrev pub invariant-places : goal.invariant-places
