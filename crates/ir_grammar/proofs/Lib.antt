@@ -6,3 +6,5 @@ pub mod TailLaws
 pub mod LineLaws
 pub mod Lines
 pub mod Turns
+pub mod Chains
+pub mod TopLaws

@@ -1,5 +1,5 @@
 -- Each line form is read as it means.
-use Rattle.std.proofs.Common.{[], ◌∷◌, Err, ℕ, zero, suc, ◌≡◌, Bool, true, false, not, List, Option, Some, None, refl, sym, ap, ◌∙◌, ◌⊎◌, inl, inr, ⊎_elim}
+use Rattle.std.proofs.Common.{[], ◌∷◌, Err, ℕ, ◌≡◌, Bool, true, false, not, List, Option, Some, None, refl, sym, ap, ◌∙◌, ◌⊎◌, inl, inr, ⊎_elim}
 use Rattle.std.specs.Prelude.{codes, is_some, is_none, option_and_then}
 use Rattle.std.specs.List.{list_all}
 use Rattle.ir_core.specs.declared.text.TokKind.{TokKind}
@@ -30,7 +30,7 @@ use Rattle.ir_grammar.specs.Numbers.{decimal, count}
 use Rattle.ir_grammar.specs.Words.{entry, in_table, pred_word, rmw_word, binop_flags, cast_flags, gep_flags, icmp_flags, flag_of, flags, attribute_rows, rows_of, linkage_words, or_else, result_opcode_word, plain_opcode_word}
 use Rattle.ir_grammar.specs.Types.{width_word, memory_word, width, memory_type, width_text, scalar_text, type_head, typ, result_head, result_type}
 use Rattle.ir_grammar.specs.Values.{value_head, value_rest, value}
-use Rattle.ir_grammar.specs.Tails.{goes_on, attribute_word, attributes}
+use Rattle.ir_grammar.specs.Tails.{goes_on, attribute_word}
 use Rattle.ir_grammar.specs.Lines.{operand, pointer, comma_pointer, comma_operand, comma_same, label, comma_label, index, binary, comparison, selection, conversion, element, allocation, loading, updating, exchange, extraction, arm, phi, callee_of, callee, argument, call_operands, call, marked_call, storing, fencing, branch, arm_of_switch, switch_cases, switching, returning, line_with, line_without, result_line, instruction}
 use Rattle.ir_grammar.proofs.Reading.{IsRead, Anywhere, AtEnd, Fails, Refuses, gives_law, one_law, then_law, then_other, either_head, optional_law, seen_law}
 use Rattle.ir_grammar.proofs.Rows.{star_heads}
@@ -213,7 +213,7 @@ argument_law = then_law (typ_law 63) (λ ty front m. then_other (λ t. is_some (
     (λ _ front m t e. then_refuses (value 62 ty) _ t (value_refuses 62 ty t (at_entry (value_head ty) attribute_rows (value_at_attribute ty) t e))))
 
 -- a word of linkage or of attributes is none of a type
-result_refuses : (inner : ℕ) (t : Tok) → result_head t ≡ None → Refuses (result_type inner) t
+pub result_refuses : (inner : ℕ) (t : Tok) → result_head t ≡ None → Refuses (result_type inner) t
 unfolding result_type
 result_refuses inner t e = then_refuses (one result_head) _ t (one_refuses result_head t e)
 
@@ -225,7 +225,7 @@ either_table {A} f g (Some word) e = by (f word) e
     by None e = inr e
     by (Some a) e = inl refl
 
-linkage_refused : (t : Tok) → is_some (in_table (attribute_word true) t) ≡ true → result_head t ≡ None
+pub linkage_refused : (t : Tok) → is_some (in_table (attribute_word true) t) ≡ true → result_head t ≡ None
 linkage_refused t e = ⊎_elim (λ h. at_entry result_head attribute_rows (λ at. refl) t h) (λ h. at_entry result_head (rows_of Whole linkage_words) (λ at. refl) t h) (either_table (entry attribute_rows) (entry (rows_of Whole linkage_words)) (word_of t) e)
 
 -- a `#` token isn't a comma
@@ -353,7 +353,7 @@ unfolding result_line
 result_line_law = then_law local_law (λ dst front m. then_law (punct_law equals) (λ _ front m. then_law (table_law result_opcode_word (codes "add") (results.Bin Add) refl) (λ op front m. line_with_law dst op)))
 
 -- a token that is no `%` name is none
-no_local : (t : Tok) → is_local t ≡ false → local_of t ≡ None
+pub no_local : (t : Tok) → is_local t ≡ false → local_of t ≡ None
 no_local t e = by t.kind e
   where
     by : (k : TokKind) → is_local (record { kind = k; text = t.text; at = t.at }) ≡ false → local_of (record { kind = k; text = t.text; at = t.at }) ≡ None

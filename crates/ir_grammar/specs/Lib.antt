@@ -6,3 +6,4 @@ pub mod Types
 pub mod Values
 pub mod Tails
 pub mod Lines
+pub mod Top

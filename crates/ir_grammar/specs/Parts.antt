@@ -117,6 +117,26 @@ read_row test p (suc n) ts = elim (test ts) [ true ↦ then_row (read_row test p
 abbrev pub star : {A : Type 0} → (List Tok → Bool) → Part A → Part (List A)
 star test p = record { means = λ ts values. IsRow p.means values ts; reads = λ ts. read_row test p (length ts) ts }
 
+-- ---- parts that say whether another one follows
+
+-- the tokens are parts, one behind the other, of which each but the last says that another one follows
+abbrev pub IsChain : {A : Type 0} → (List Tok → A × Bool → Type 0) → List A → List Tok → Type 0
+IsChain p [] ts = ⊥
+IsChain p (a ∷ []) ts = p ts (a, false)
+IsChain p (a ∷ b ∷ values) ts = HasFirst p (a, true) (IsChain p (b ∷ values)) ts
+
+abbrev pub then_chain : {A : Type 0} → (List Tok → Read (List A)) → Read (A × Bool) → Read (List A)
+then_chain others (Err n) = Err n
+then_chain others (Ok x) = elim x.0.1 [ true ↦ with_first x.0.0 (others x.1) | false ↦ Ok (x.0.0 ∷ [], x.1) ]
+
+unfoldable pub read_chain : {A : Type 0} → Part (A × Bool) → ℕ → List Tok → Read (List A)
+read_chain p zero ts = Err (length ts)
+read_chain p (suc n) ts = then_chain (read_chain p n) (p.reads ts)
+
+-- a part once or more, as long as it says that another one follows
+abbrev pub chain : {A : Type 0} → Part (A × Bool) → Part (List A)
+chain p = record { means = λ ts values. IsChain p.means values ts; reads = λ ts. read_chain p (suc (length ts)) ts }
+
 -- ---- a value seen otherwise, and what may be missing
 
 pub record Sees {A B : Type 0} (p : List Tok → A → Type 0) (f : A → B) (ts : List Tok) (v : B) : Type 0 where

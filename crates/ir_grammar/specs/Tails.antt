@@ -1,5 +1,5 @@
 -- What stands beside the operands of an instruction and says nothing here, and how its line ends.
-use Rattle.std.specs.Prelude.{ℕ, ◌^◌, ◌&&◌, not, Bool, true, false, List, [], ◌∷◌, codes, drop, Option, is_some}
+use Rattle.std.specs.Prelude.{ℕ, ◌^◌, ◌&&◌, not, Bool, true, false, List, codes, drop, Option, is_some}
 use Rattle.ir_grammar.specs.declared.heads.AttributeHead.{AttributeHead}
 use Rattle.ir_grammar.specs.declared.heads.AttributeHead.TheVariants.{Whole, Align, Sized, Captures}
 use Rattle.ir_grammar.specs.Parts.{Tok, Part, gives, ends, one, ◌>>=◌, either, skipped, seen, heads as starts}

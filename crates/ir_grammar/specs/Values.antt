@@ -16,8 +16,8 @@ use Rattle.ir_core.specs.declared.values.ConstGep.{ConstGep}
 use Rattle.ir_grammar.specs.declared.heads.FlagSet.TheVariants.{Gep}
 use Rattle.ir_grammar.specs.declared.heads.ValueHead.{ValueHead}
 use Rattle.ir_grammar.specs.declared.heads.ValueHead.TheVariants as heads
-use Rattle.ir_grammar.specs.Parts.{Tok, Part, gives, one, ◌>>=◌, more, heads as starts}
-use Rattle.ir_grammar.specs.Tokens.{is_punct, name_place, keyword, punct, comma, open_paren, close_paren}
+use Rattle.ir_grammar.specs.Parts.{Tok, Part, gives, one, ◌>>=◌}
+use Rattle.ir_grammar.specs.Tokens.{name_place, keyword, punct, comma, open_paren, close_paren}
 use Rattle.ir_grammar.specs.Numbers.{bits, word_written}
 use Rattle.ir_grammar.specs.Words.{entry, flags}
 use Rattle.ir_grammar.specs.Types.{width, typ, more_listed}

@@ -8,8 +8,10 @@
 
 mod heads;
 mod laws;
+mod trees;
 
 pub use heads::{
     AttributeHead, Flag, FlagSet, PlainOpcode, ResultHead, ResultOpcode, TypeHead, ValueHead,
 };
 pub use laws::{instruction_or_unfit, never_both, one_instruction, one_unfit_place};
+pub use trees::{BodyLine, Head, InitHead, Params, TailHead, TopLine, TopWord};
