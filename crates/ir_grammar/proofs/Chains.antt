@@ -1,6 +1,6 @@
 -- Parts that say whether another one follows are read as they mean.
 use Rattle.std.proofs.Common.{ℕ, zero, suc, ◌≡◌, ◌<◌, Bool, true, false, List, [], ◌∷◌, ◌++◌, length, Ok, Err, refl, sym, ap, ◌∙◌, subst, append_assoc, length-append, arith}
-use Rattle.ir_grammar.specs.Parts.{Tok, Read, Part, IsChain, with_first, then_chain, read_chain, chain, Begins}
+use Rattle.ir_grammar.specs.Parts.{Tok, Read, Part, IsChain, with_first, then_chain, read_chain, chain, read_seen, chained, Begins}
 use Rattle.ir_grammar.proofs.Reading.{Took, StopsAt, Stops, IsRead, Anywhere, read_ok, not_read, not_stopped, left_is}
 
 module _ {A : Type 0} (p : Part (A × Bool)) (law : IsRead Anywhere p) (empty : p.reads [] ≡ Err 0) (last : List Tok) (end : A) (ends : p.means last (end, false)) where
@@ -171,3 +171,33 @@ module _ {A : Type 0} (p : Part (A × Bool)) (law : IsRead Anywhere p) (empty : 
       by : (r : Read (A × Bool)) → p.reads ts ≡ r → then_chain (read_chain p (length ts)) r ≡ then_chain (chain p).reads r
       by (Err m) g = refl
       by (Ok x) g = let s = law.sound ts x.1 x.0 g in said x.0.0 x.0.1 s.front x.1 s.is s.whole
+
+-- what a loop over such a part needs of it
+pub record Links {A : Type 0} (p : Part (A × Bool)) : Type 0 where
+  pub step : (ts : List Tok) → (chain p).reads ts ≡ then_chain (chain p).reads (p.reads ts)
+  pub shrinks : (ts rest : List Tok) (v : A × Bool) → p.reads ts ≡ Ok (v, rest) → length rest < length ts
+
+pub links_of : {A : Type 0} {p : Part (A × Bool)} → IsRead Anywhere p → p.reads [] ≡ Err 0 → (ts : List Tok) (end : A) → p.reads ts ≡ Ok ((end, false), []) → Links p
+links_of {A} {p} law empty ts end e =
+    let t = law.sound ts [] (end, false) e in
+    record {
+      step = λ us. chain_step p law empty t.front end t.is us;
+      shrinks = λ us rest v r. let s = law.sound us rest v r in shorter p law empty t.front end t.is us s.front rest v s.is s.whole;
+    }
+
+module _ {A : Type 0} {p : Part (A × Bool)} (links : Links p) where
+  -- another one follows
+  pub chain_more : (front : List A) (ts rest : List Tok) (a : A) → p.reads ts ≡ Ok ((a, true), rest) → (chained (front ++ a ∷ []) p).reads rest ≡ (chained front p).reads ts
+  chain_more front ts rest a e = by ((chain p).reads rest) ∙ ap (read_seen (λ others. front ++ others)) (sym (links.step ts ∙ ap (then_chain (chain p).reads) e))
+    where
+      by : (x : Read (List A)) → read_seen (λ others. (front ++ a ∷ []) ++ others) x ≡ read_seen (λ others. front ++ others) (with_first a x)
+      by (Ok x) = ap (λ ys. Ok (ys, x.1)) (append_assoc front (a ∷ []) x.0)
+      by (Err n) = refl
+
+  -- it was the last one
+  pub chain_over : (front : List A) (ts rest : List Tok) (a : A) → p.reads ts ≡ Ok ((a, false), rest) → (chained front p).reads ts ≡ Ok (front ++ a ∷ [], rest)
+  chain_over front ts rest a e = ap (read_seen (λ others. front ++ others)) (links.step ts ∙ ap (then_chain (chain p).reads) e)
+
+  -- a part that is unfit
+  pub chain_stop : (front : List A) (ts : List Tok) (n : ℕ) → p.reads ts ≡ Err n → (chained front p).reads ts ≡ Err n
+  chain_stop front ts n e = ap (read_seen (λ others. front ++ others)) (links.step ts ∙ ap (then_chain (chain p).reads) e)

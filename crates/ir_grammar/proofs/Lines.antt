@@ -1,9 +1,16 @@
 -- What a part that goes to the end of the line means of all tokens: one value, or one unfit place.
 use Rattle.std.proofs.Common.{◌≤◌, ℕ, suc, ◌≡◌, ◌-◌, ◌<◌, List, [], ◌∷◌, ◌++◌, length, Ok, Err, refl, sym, ap, subst, ◌∙◌, append_assoc, length-append, arith}
 use Rattle.std.proofs.Common.{⊎_elim}
+use Rattle.std.proofs.lemmas.List.{length-map}
+use Rattle.ir_core.specs.declared.text.Token.{Token}
+use Rattle.ir_grammar.specs.Tokens.{token_of, tokens_of}
 use Rattle.std.proofs.lemmas.Bool.{cases_lt}
 use Rattle.ir_grammar.specs.Parts.{Tok, Read, Part, Begins, IsUnfit, Verdict, Stands, Unfit}
 use Rattle.ir_grammar.proofs.Reading.{IsRead, AtEnd, StopsAt, not_read, read_ok, append_nil}
+
+-- as many tokens with their texts as without
+pub same_length : (line : List ℕ) (tokens : List Token) → length (tokens_of line tokens) ≡ length tokens
+same_length line tokens = length-map tokens (token_of line)
 
 module _ {A : Type 0} {p : Part A} (law : IsRead AtEnd p) where
   -- what tokens stand for is read of them

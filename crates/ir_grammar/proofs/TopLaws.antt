@@ -7,6 +7,7 @@ use Rattle.ir_core.specs.declared.types.Ty.{Ty}
 use Rattle.ir_core.specs.declared.types.Ty.TheVariants as types
 use Rattle.ir_core.specs.declared.values.Init.{Init}
 use Rattle.ir_core.specs.declared.values.Init.TheVariants as inits
+use Rattle.ir_grammar.specs.declared.heads.AttributeHead.TheVariants.{Whole}
 use Rattle.ir_grammar.specs.declared.trees.InitHead.{InitHead}
 use Rattle.ir_grammar.specs.declared.trees.InitHead.TheVariants as heads
 use Rattle.ir_grammar.specs.declared.trees.TopWord.{TopWord}
@@ -25,10 +26,11 @@ use Rattle.ir_grammar.specs.Lines.{instruction, result_line, plain_line, line_wi
 use Rattle.ir_grammar.specs.Top.{type_line, flat_init, init_first, typed_init, init_rest, init, linkage_word, linkage, global_word, global_line, tail_head, tail_rest, behind_params, separator, declared_param, param_name, defined_param, params_of, declare_line, define_line, top_word, function_line, word_line, is_at, top_line, label_of, is_label, label_line, end_line, body_line}
 use Rattle.ir_grammar.proofs.Reading.{IsRead, Anywhere, AtEnd, Fails, Refuses, gives_law, ends_law, one_law, then_law, then_other, either_head, seen_law}
 use Rattle.ir_grammar.proofs.Rows.{star_heads}
-use Rattle.ir_grammar.proofs.Chains.{chain_law}
+use Rattle.ir_grammar.proofs.Chains.{chain_law, Links, links_of}
 use Rattle.ir_grammar.proofs.Refusals.{word_token, punct_token, at_punct, at_local, at_entry, unknown, one_refuses, then_refuses, either_refuses}
 use Rattle.ir_grammar.proofs.PartLaws.{keyword_law, punct_law, bang_law, local_law, symbol_law, table_law, punct_refuses, listed_law, typ_law, typ_refuses, typ_at_brace, typ_at_paren, result_type_law, const_gep_law, attributes_law}
 use Rattle.ir_grammar.proofs.TailLaws.{aligned_law}
+use Rattle.ir_grammar.proofs.Turns.{Turns, turns_of, one_turns}
 use Rattle.ir_grammar.proofs.LineLaws.{instruction_law, no_local, result_refuses, linkage_refused}
 
 -- ---- named types
@@ -46,7 +48,7 @@ typ_at_bracket : (n : ℕ) (t : Tok) → is_punct close_bracket t ≡ true → R
 typ_at_bracket n t e = typ_refuses n t (at_punct (type_head true) close_bracket (λ at. refl) t e) (at_punct (type_head false) close_bracket (λ at. refl) t e)
 
 module _ (n : ℕ) (inner : Ty → Part Init) (law : (ty : Ty) → IsRead Anywhere (inner ty)) where
-  typed_law : IsRead Anywhere (typed_init (typ n) inner)
+  pub typed_law : IsRead Anywhere (typed_init (typ n) inner)
   typed_law = then_law (typ_law n) (λ ty front m. then_law (law ty) (λ i front m. gives_law (ty, i)))
 
   init_rest_law : (text : List ℕ) (h : InitHead) → IsRead Anywhere (init_rest n inner text h)
@@ -69,13 +71,16 @@ init_law (suc n) ty = then_law (one_law (init_first ty) zero_token (heads.Zero, 
 linkage_law : IsRead (Fails (starts (λ t. is_some (in_table linkage_word t)))) linkage
 unfolding linkage
 linkage_law = seen_law (λ _. true) (star (starts (λ t. is_some (in_table linkage_word t))) (one (in_table linkage_word)))
-    (star_heads (λ t. is_some (in_table linkage_word t)) (table_law linkage_word (codes "private") true refl) (λ t e. one_refuses (in_table linkage_word) t (unknown (in_table linkage_word) t e)) refl)
+    (star_heads (λ t. is_some (in_table linkage_word t)) (table_law linkage_word (codes "private") Whole refl) (λ t e. one_refuses (in_table linkage_word) t (unknown (in_table linkage_word) t e)) refl)
+
+pub linkage_turns : Turns (starts (λ t. is_some (in_table linkage_word t))) (one (in_table linkage_word))
+linkage_turns = one_turns (in_table linkage_word)
 
 global_line_law : IsRead AtEnd global_line
 unfolding global_line
 global_line_law = then_law symbol_law (λ sym front m. then_law (punct_law equals) (λ _ front m. then_other (λ t. is_some (in_table linkage_word t)) linkage_law
     (λ _ front m. then_law (table_law global_word (codes "global") true refl) (λ _ front m. then_law (typ_law 64) (λ ty front m. then_law (init_law 64 ty) (λ i front m. aligned_law _))))
-    (λ _ front m t e. then_refuses (one (in_table global_word)) _ t (one_refuses (in_table global_word) t (at_entry (in_table global_word) (rows_of true linkage_words) (λ at. refl) t e)))))
+    (λ _ front m t e. then_refuses (one (in_table global_word)) _ t (one_refuses (in_table global_word) t (at_entry (in_table global_word) (rows_of Whole linkage_words) (λ at. refl) t e)))))
 
 -- ---- functions
 
@@ -90,6 +95,9 @@ behind_params_law : IsRead (Fails (starts (λ t. is_some (tail_head t)))) behind
 unfolding behind_params
 behind_params_law = seen_law (λ _. true) (star (starts (λ t. is_some (tail_head t))) (one tail_head >>= tail_rest))
     (star_heads (λ t. is_some (tail_head t)) (then_law (one_law tail_head (record { kind = Hash; text = []; at = 0 }) tails.Whole refl) (λ h front m. tail_rest_law h)) (λ t e. then_refuses (one tail_head) tail_rest t (one_refuses tail_head t (unknown tail_head t e))) refl)
+
+pub behind_turns : Turns (starts (λ t. is_some (tail_head t))) (one tail_head >>= tail_rest)
+behind_turns = turns_of (starts (λ t. is_some (tail_head t))) (then_law (one_law tail_head (record { kind = Hash; text = []; at = 0 }) tails.Whole refl) (λ h front m. tail_rest_law h)) refl refl
 
 declared_param_law : IsRead Anywhere declared_param
 unfolding declared_param
@@ -150,11 +158,11 @@ unfolding typ
 typ_ptr zero rest = refl
 typ_ptr (suc n) rest = refl
 
-pub declared_param_empty : declared_param.reads [] ≡ Err 0
+declared_param_empty : declared_param.reads [] ≡ Err 0
 unfolding declared_param
 declared_param_empty = ap (λ r. read_then r (λ ty. attributes false >>= λ _. one separator >>= λ more. gives (ty, more))) (typ_empty 63)
 
-pub defined_param_empty : defined_param.reads [] ≡ Err 0
+defined_param_empty : defined_param.reads [] ≡ Err 0
 unfolding defined_param
 defined_param_empty = ap (λ r. read_then r (λ ty. attributes false >>= λ _. param_name >>= λ x. gives ((ty, x.0), x.1))) (typ_empty 63)
 
@@ -179,6 +187,12 @@ declared_params_law = params_law declared_param declared_param_law declared_para
 
 defined_params_law : IsRead Anywhere (params_of defined_param)
 defined_params_law = params_law defined_param defined_param_law defined_param_empty defined_at_paren last_param (types.Ptr, None) last_defined
+
+pub declared_links : Links declared_param
+declared_links = links_of declared_param_law declared_param_empty last_param types.Ptr last_declared
+
+pub defined_links : Links defined_param
+defined_links = links_of defined_param_law defined_param_empty last_param (types.Ptr, None) last_defined
 
 -- the end of a line and `{` are none of what stands behind the parameters
 brace_is_no_tail : (t : Tok) → is_some (tail_head t) ≡ true → known (is_punct open_brace t) ≡ None

@@ -156,6 +156,10 @@ seen f p = record { means = Sees p.means f; reads = λ ts. read_seen f (p.reads 
 abbrev pub more : {A : Type 0} → List A → (List Tok → Bool) → Part A → Part (List A)
 more values test p = seen (λ others. values ++ others) (star test p)
 
+-- values, and behind them those of a chain
+abbrev pub chained : {A : Type 0} → List A → Part (A × Bool) → Part (List A)
+chained values p = seen (λ others. values ++ others) (chain p)
+
 -- a part any number of times that says nothing
 abbrev pub skipped : {A : Type 0} → (List Tok → Bool) → Part A → Part Bool
 skipped test p = seen (λ _. true) (star test p)

@@ -17,6 +17,8 @@ use Rattle.ir_core.specs.declared.types.Ty.TheVariants as types
 use Rattle.ir_core.specs.declared.values.Init.{Init}
 use Rattle.ir_core.specs.declared.values.Init.TheVariants as inits
 use Rattle.ir_core.specs.Strings.{string_bytes, between_quotes}
+use Rattle.ir_grammar.specs.declared.heads.AttributeHead.{AttributeHead}
+use Rattle.ir_grammar.specs.declared.heads.AttributeHead.TheVariants.{Whole}
 use Rattle.ir_grammar.specs.declared.heads.ValueHead.{ValueHead}
 use Rattle.ir_grammar.specs.declared.heads.ValueHead.TheVariants as values
 use Rattle.ir_grammar.specs.declared.trees.InitHead.{InitHead}
@@ -120,8 +122,8 @@ init (suc n) ty = one (init_first ty) >>= λ x. init_rest n (init n) x.1 x.0
 
 -- ---- globals
 
-abbrev pub linkage_word : List ℕ → Option Bool
-linkage_word = entry (rows_of true linkage_words)
+abbrev pub linkage_word : List ℕ → Option AttributeHead
+linkage_word = entry (rows_of Whole linkage_words)
 
 -- words of linkage, any number of them
 unfoldable pub linkage : Part Bool

@@ -19,4 +19,4 @@ pub use ir_core::{LinePlace, TokKind, Token};
 pub use lex::{LexError, lex_line};
 pub use lines::{lines_law, split_line};
 pub use names::name_from;
-pub use strings::string_bytes;
+pub use strings::{string_bytes, string_len};

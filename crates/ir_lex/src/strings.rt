@@ -63,3 +63,16 @@ pub fn string_bytes(alloc: Global, token: &[u8]) -> Result<Vec<u8>, AllocError>
     }
     Ok(bytes)
 }
+
+/// How many bytes the text `c"..."` of a token stands for.
+pub fn string_len(token: &[u8]) -> usize
+    ensures { result ≡ length (string_bytes (between_quotes token.now)) }
+{
+    let mut rest = between_quotes(token);
+    let mut count = 0;
+    'bytes: while let Some((_, left)) = next_byte(rest) {
+        count += 1;
+        rest = left;
+    }
+    count
+}

@@ -12,4 +12,5 @@ mod parse;
 mod plain;
 mod results;
 
+pub use lines::instruction;
 pub use parse::{InstError, parse_inst, read_inst};

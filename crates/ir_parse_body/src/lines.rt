@@ -125,9 +125,9 @@ fn plain_line(reader: &mut Reader) -> Result<Inst, Stop>
     line_without(reader, opcode)
 }
 
-/// An instruction line.
+/// An instruction line: the reader goes to its end.
 #[tactic(auto, unfolding(ir_grammar::specs::Lines::instruction))]
-pub(crate) fn instruction(reader: &mut Reader) -> Result<Inst, Stop>
+pub fn instruction(reader: &mut Reader) -> Result<Inst, Stop>
     ensures { Gave result reader.new (instruction.reads reader.old) }
 {
     if reader.at_local() {

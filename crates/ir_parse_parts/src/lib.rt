@@ -14,3 +14,5 @@ mod words;
 pub use reader::Reader;
 pub use stops::Stop;
 pub use tokens::Tok;
+pub use values::constant_head;
+pub use words::linkage_word;

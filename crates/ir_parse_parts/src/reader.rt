@@ -5,6 +5,7 @@ ghost use Rattle.ir_grammar.specs.Tokens.{tokens_of, word_of, is_punct, is_word,
 ghost use Rattle.ir_parse_parts.specs.declared.stops.Stop.TheVariants.{Unfit};
 ghost use Rattle.ir_core.specs.Tokens.{AreWithin};
 ghost use Rattle.ir_grammar.specs.Parts.{first, taken, heads, optional, ends};
+ghost use Rattle.ir_grammar.specs.Top.{is_at};
 ghost use Rattle.ir_parse_parts.specs.Reads.{Gave, Passed};
 ghost use Rattle.ir_parse_parts.specs.Views.{tok_view};
 
@@ -132,6 +133,19 @@ impl<'a> Reader<'a> {
         )
     }
 
+    /// Whether the next token is an `@` name.
+    pub fn at_symbol(&self) -> bool
+        ensures { result ≡ heads is_at self.now }
+    {
+        matches!(
+            self.peek(),
+            Some(Tok {
+                kind: TokKind::At,
+                ..
+            })
+        )
+    }
+
     /// Whether the token behind the next one is a `!` name.
     pub(crate) fn bang_behind(&self) -> bool
         ensures { result ≡ heads is_bang (drop 1 self.now) }
@@ -143,7 +157,7 @@ impl<'a> Reader<'a> {
     }
 
     /// A `!` name.
-    pub(crate) fn bang(&mut self) -> Result<(), Stop>
+    pub fn bang(&mut self) -> Result<(), Stop>
         ensures { Passed result self.new (bang.reads self.old) }
     {
         match self.peek() {
@@ -161,7 +175,7 @@ impl<'a> Reader<'a> {
     }
 
     /// The end of the line.
-    pub(crate) fn end(&self) -> Result<(), Stop>
+    pub fn end(&self) -> Result<(), Stop>
         ensures { Passed result self.now ((ends true).reads self.now) }
     {
         match self.peek() {

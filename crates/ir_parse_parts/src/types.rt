@@ -230,8 +230,9 @@ impl Reader<'_> {
         Ok(Ty::Struct(parts))
     }
 
+    /// Types up to a `}`, with so many brackets at most that stand open in one of them at once.
     #[cycle(types)]
-    fn type_list(&mut self, inner: u32) -> Result<Tys, Stop>
+    pub fn type_list(&mut self, inner: u32) -> Result<Tys, Stop>
         ensures { Gave result self.new ((listed close_brace (typ inner)).reads self.old) }
     {
         let mut types = Seq::new(self.alloc());

@@ -32,7 +32,8 @@ fn pointer_head(tok: &Tok) -> Option<ValueHead>
     }
 }
 
-fn constant_head(ty: &Ty, tok: &Tok) -> Option<ValueHead>
+/// What a token says as the first one of a constant of the type.
+pub fn constant_head(ty: &Ty, tok: &Tok) -> Option<ValueHead>
     ensures { result ≡ constant_head ty.now (tok_view tok.now) }
 {
     match ty {

@@ -79,7 +79,7 @@ fn plain_attribute(word: &[u8]) -> Option<AttributeHead>
 }
 
 /// Words that say how a function is linked and called.
-fn linkage_word(word: &[u8]) -> Option<AttributeHead>
+pub fn linkage_word(word: &[u8]) -> Option<AttributeHead>
     ensures { result ≡ entry (rows_of Whole linkage_words) word.now }
 {
     word_table!(word;

@@ -1,16 +1,10 @@
-use Rattle.std.proofs.Common.{ℕ, ◌≡◌, ◌-◌, ◌∙◌, Err, length, List, sym, ap, subst, arith}
-use Rattle.std.proofs.lemmas.List.{length-map}
-use Rattle.ir_core.specs.declared.text.Token.{Token}
-use Rattle.ir_grammar.specs.Parts.{Tok, Read, IsUnfit}
-use Rattle.ir_grammar.specs.Tokens.{token_of, tokens_of}
+use Rattle.std.proofs.Common.{◌≡◌, ◌-◌, ◌∙◌, Err, length, sym, ap, subst, arith}
+use Rattle.ir_grammar.specs.Parts.{IsUnfit}
+use Rattle.ir_grammar.specs.Tokens.{tokens_of}
 use Rattle.ir_grammar.specs.Lines.{instruction, IsInstruction}
 use Rattle.ir_grammar.proofs.LineLaws.{instruction_law}
-use Rattle.ir_grammar.proofs.Lines.{read_meant, unfit_read, left_within}
+use Rattle.ir_grammar.proofs.Lines.{read_meant, unfit_read, left_within, same_length}
 use Rattle.ir_parse_body.proofs.parse.read_inst.Goals as goal
-
--- as many tokens with their texts as without
-same_length : (line : List ℕ) (tokens : List Token) → length (tokens_of line tokens) ≡ length tokens
-same_length line tokens = length-map tokens (token_of line)
 
 pub overflow_sub-result : goal.overflow_sub-result
 overflow_sub-result c =
