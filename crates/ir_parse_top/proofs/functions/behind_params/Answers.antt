@@ -1,4 +1,4 @@
-use Rattle.std.proofs.Common.{◌≡◌, ◌∙◌, sym, true, Ok}
+use Rattle.std.proofs.Common.{◌∙◌, sym, true}
 use Rattle.std.proofs.lemmas.Result.{err_from_is_err_and}
 use Rattle.ir_grammar.specs.Top.{tail_head, tail_rest, behind_params}
 use Rattle.ir_grammar.proofs.Turns.{some_head, no_head, rest_taken, skip_more, skip_over, skip_stop}

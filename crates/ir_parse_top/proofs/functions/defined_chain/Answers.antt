@@ -1,6 +1,5 @@
-use Rattle.std.proofs.Common.{◌≡◌, ◌∙◌, sym, ap, not, Bool, true, false, Ok, refl}
+use Rattle.std.proofs.Common.{◌≡◌, ◌∙◌, sym, ap, Bool, true, false, Ok}
 use Rattle.std.proofs.lemmas.Result.{err_from_is_err_and}
-use Rattle.ir_grammar.specs.Top.{defined_param}
 use Rattle.ir_grammar.proofs.Chains.{chain_more, chain_over, chain_stop}
 use Rattle.ir_grammar.proofs.TopLaws.{defined_links}
 use Rattle.ir_parse_parts.proofs.Exits.{stopped_then}

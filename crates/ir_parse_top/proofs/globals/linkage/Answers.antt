@@ -1,4 +1,4 @@
-use Rattle.std.proofs.Common.{◌≡◌, ◌∙◌, sym, ap, drop, List, [], ◌∷◌, Option, Some, None, Ok, true, refl}
+use Rattle.std.proofs.Common.{◌≡◌, ◌∙◌, sym, drop, List, [], ◌∷◌, Option, Some, None, Ok, true, refl}
 use Rattle.std.specs.Prelude.{is_some}
 use Rattle.ir_grammar.specs.Parts.{Tok, one, heads, taken}
 use Rattle.ir_grammar.specs.Words.{in_table}
