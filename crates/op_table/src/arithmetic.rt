@@ -1,9 +1,10 @@
 //! The binary operators on words of one width (LLVM Language Reference, 'Binary Operations', 'Bitwise
 //! Binary Operations').
-ghost use Rattle.std.specs.Prelude.{◌≡◌, ◌+◌, ◌*◌, ◌%◌, ◌^◌, ◌<◌, ◌≤◌, ◌+ℤ◌, ◌-ℤ◌, ◌*ℤ◌, pos, false};
-ghost use Rattle.op_table.specs.Operators.{IsWidth, sv, is_word, is_signed, is_divide, reduced, binary};
+ghost use Rattle.std.specs.Prelude.{◌≡◌, ◌+◌, ◌*◌, ◌%◌, ◌^◌, ◌<◌, ◌≤◌, ◌+ℤ◌, ◌-ℤ◌, ◌*ℤ◌, pos, false, ◌==◌, ◌&&◌, int_div, int_rem};
+ghost use Rattle.std.specs.Int.{int_div_euclid};
+ghost use Rattle.op_table.specs.Operators.{IsWidth, sv, is_word, is_signed, is_divide, reduced, least, minus_one, binary};
 
-use crate::words::{Word, lies_within, low_bits};
+use crate::words::{Word, lies_within, low_bits, quotient_and_remainder, signed_low_bits};
 use crate::OpCause;
 use ir_core::{BinOp, Flags};
 
@@ -155,5 +156,149 @@ impl<const W: u32> Word<W> {
             return Err(OpCause::Divide);
         }
         Ok(Self::wrapped(a % b))
+    }
+
+    /// Whether the signed quotient is past the greatest signed value.
+    fn quotient_overflows(&self, other: &Self) -> bool
+        requires { IsWidth W }
+        ensures { result ≡ (self.now == least W && other.now == minus_one W) }
+    {
+        self.get() == Self::half() && other.get() == Self::greatest()
+    }
+
+    /// The signed quotient, toward zero, and its remainder, which has the dividend's sign.
+    fn signed_quotient(&self, other: &Self) -> (i64, i64)
+        requires width { IsWidth W }
+        requires divides { is_divide BinOp.Sdiv W self.now other.now ≡ false }
+        ensures quotient { result.0 ≡ int_div (sv W self.now) (sv W other.now) }
+        ensures remainder { result.1 ≡ int_rem (sv W self.now) (sv W other.now) }
+    {
+        quotient_and_remainder(self.signed(), other.signed())
+    }
+
+    /// `sdiv`
+    fn sdiv(&self, other: &Self, flags: Flags) -> Result<Self, OpCause>
+        requires { IsWidth W }
+        ensures { result ≡ binary BinOp.Sdiv flags W self.now other.now }
+    {
+        if other.get() == 0 || self.quotient_overflows(other) {
+            return Err(OpCause::Divide);
+        }
+        let (quotient, remainder) = self.signed_quotient(other);
+        poison_if!(flags.exact && remainder.unsigned_abs() != 0);
+        Ok(Self::wrapped_signed(quotient))
+    }
+
+    /// `srem`
+    fn srem(&self, other: &Self, flags: Flags) -> Result<Self, OpCause>
+        requires { IsWidth W }
+        ensures { result ≡ binary BinOp.Srem flags W self.now other.now }
+    {
+        if other.get() == 0 || self.quotient_overflows(other) {
+            return Err(OpCause::Divide);
+        }
+        let (_, remainder) = self.signed_quotient(other);
+        Ok(Self::wrapped_signed(remainder))
+    }
+
+    fn shifted_is_word(&self, by: &Self) -> bool
+        requires width { IsWidth W }
+        requires shift { by.now < W }
+        ensures { result ≡ is_word W (self.now * 2 ^ by.now) }
+    {
+        self.get() <= Self::greatest() >> by.get()
+    }
+
+    fn shifted_is_signed(&self, by: &Self) -> bool
+        requires width { IsWidth W }
+        requires shift { by.now < W }
+        ensures { result ≡ is_signed W (sv W self.now *ℤ pos (2 ^ by.now)) }
+    {
+        lies_within(self.signed(), Self::half() >> by.get())
+    }
+
+    #[tactic(auto, using(crate::proofs::Powers::mod_again))]
+    fn shifted_left(&self, by: &Self) -> Self
+        requires width { IsWidth W }
+        requires shift { by.now < W }
+        ensures { result ≡ (self.now * 2 ^ by.now) % 2 ^ W }
+    {
+        Self::wrapped(self.get() << by.get())
+    }
+
+    /// The signed value by so many places down, and whether bits were lost.
+    fn shifted_down(&self, by: &Self) -> Self
+        requires width { IsWidth W }
+        requires shift { by.now < W }
+        ensures { result ≡ reduced W (int_div_euclid (sv W self.now) (pos (2 ^ by.now))) }
+    {
+        Self::wrapped_signed(self.signed() >> by.get())
+    }
+
+    fn signed_low_bits(&self, by: &Self) -> u64
+        requires width { IsWidth W }
+        requires shift { by.now < W }
+        ensures { result ≡ reduced by.now (sv W self.now) }
+    {
+        signed_low_bits(self.signed(), by.get())
+    }
+
+    /// `shl`
+    fn shl(&self, by: &Self, flags: Flags) -> Result<Self, OpCause>
+        requires { IsWidth W }
+        ensures { result ≡ binary BinOp.Shl flags W self.now by.now }
+    {
+        poison_if!(
+            by.get() >= W as u64,
+            flags.nuw && !self.shifted_is_word(by),
+            flags.nsw && !self.shifted_is_signed(by)
+        );
+        Ok(self.shifted_left(by))
+    }
+
+    /// `lshr`
+    fn lshr(&self, by: &Self, flags: Flags) -> Result<Self, OpCause>
+        requires { IsWidth W }
+        ensures { result ≡ binary BinOp.Lshr flags W self.now by.now }
+    {
+        poison_if!(
+            by.get() >= W as u64,
+            flags.exact && low_bits(self.get(), by.get()) != 0
+        );
+        Ok(Self::wrapped(self.get() >> by.get()))
+    }
+
+    /// `ashr`
+    fn ashr(&self, by: &Self, flags: Flags) -> Result<Self, OpCause>
+        requires { IsWidth W }
+        ensures { result ≡ binary BinOp.Ashr flags W self.now by.now }
+    {
+        poison_if!(
+            by.get() >= W as u64,
+            flags.exact && self.signed_low_bits(by) != 0
+        );
+        Ok(self.shifted_down(by))
+    }
+
+    /// A binary operator on two words.
+    pub fn binary(op: BinOp, flags: Flags, a: &Self, b: &Self) -> Result<Self, OpCause>
+        requires { IsWidth W }
+        ensures { result ≡ binary op flags W a.now b.now }
+    {
+        match op {
+            BinOp::Add => a.add(b, flags),
+            BinOp::Sub => a.sub(b, flags),
+            BinOp::Mul => a.mul(b, flags),
+            BinOp::Udiv => a.udiv(b, flags),
+            BinOp::Sdiv => a.sdiv(b, flags),
+            BinOp::Urem => a.urem(b, flags),
+            BinOp::Srem => a.srem(b, flags),
+            BinOp::Shl => a.shl(b, flags),
+            BinOp::Lshr => a.lshr(b, flags),
+            BinOp::Ashr => a.ashr(b, flags),
+            BinOp::And => Ok(Self::wrapped(a.get() & b.get())),
+            BinOp::Or => Ok(Self::wrapped(a.get() | b.get())),
+            BinOp::Xor => Ok(Self::wrapped(a.get() ^ b.get())),
+        }
     }
 }

@@ -1,6 +1,6 @@
 //! Words of so many bits, and their signed values.
-ghost use Rattle.std.specs.Prelude.{◌≡◌, ◌+◌, ◌-◌, ◌%◌, ◌^◌, ◌<◌, ◌≤◌, ◌↔◌, IsTrue, SomeIff};
-ghost use Rattle.std.specs.Int.{cast_unsigned, w64};
+ghost use Rattle.std.specs.Prelude.{◌≡◌, ◌+◌, ◌-◌, ◌%◌, ◌^◌, ◌<◌, ◌≤◌, ◌↔◌, IsTrue, SomeIff, int_div, int_rem};
+ghost use Rattle.std.specs.Int.{w64, CanDivide};
 ghost use Rattle.op_table.specs.Operators.{IsWidth, sv, reduced, is_within, is_signed};
 
 use std::marker::Model;
@@ -29,6 +29,23 @@ pub fn low_bits(n: u64, count: u64) -> u64
     ensures { result ≡ n % 2 ^ count }
 {
     n & ((1 << count) - 1)
+}
+
+/// A signed number modulo 2^count.
+pub fn signed_low_bits(z: i64, count: u64) -> u64
+    requires { count < 64 }
+    ensures { result ≡ reduced count z }
+{
+    low_bits(z.cast_unsigned(), count)
+}
+
+/// A signed quotient, toward zero, and its remainder, which has the dividend's sign.
+pub fn quotient_and_remainder(a: i64, b: i64) -> (i64, i64)
+    requires { CanDivide w64 a b }
+    ensures quotient { result.0 ≡ int_div a b }
+    ensures remainder { result.1 ≡ int_rem a b }
+{
+    (a / b, a % b)
 }
 
 /// Whether a number is below 2^count.
@@ -105,7 +122,8 @@ impl<const W: u32> Word<W> {
     /// The signed value.
     pub fn signed(&self) -> i64
         requires { IsWidth W }
-        ensures { result ≡ sv W self.now }
+        ensures value { result ≡ sv W self.now }
+        ensures below { self.now < 2 ^ W }
     {
         if self.number < Self::half() {
             self.number.cast_signed()
