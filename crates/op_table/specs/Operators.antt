@@ -5,7 +5,7 @@
 -- a whole number, and all results are reduced modulo 2^w. Where the reference speaks of undefined
 -- behaviour of a division, the cause is Divide; where the result is poison, Poison. Divide comes first.
 -- A flag that an operation doesn't have says nothing. A pointer counts as a word of 64 bits.
-use Rattle.std.specs.Prelude.{◌≡◌, ℕ, ◌+◌, ◌-◌, ◌*◌, ◌/◌, ◌%◌, ◌^◌, ◌<◌, ◌≤◌, ◌==◌, Bool, false, not, ◌&&◌, ◌||◌, ℤ, pos, negsuc, ◌+ℤ◌, ◌-ℤ◌, ◌*ℤ◌, neg_ℤ, nat_lt, nat_le, int_lt, int_le, int_div, int_rem, unsigned_abs, bit_and, bit_or, bit_xor, if◌then◌else◌, Result, Ok, Err}
+use Rattle.std.specs.Prelude.{◌≡◌, ℕ, ◌+◌, ◌-◌, ◌*◌, ◌/◌, ◌%◌, ◌^◌, ◌<◌, ◌≤◌, ◌==◌, Bool, false, not, ◌&&◌, ◌||◌, ℤ, pos, ◌+ℤ◌, ◌-ℤ◌, ◌*ℤ◌, neg_ℤ, nat_lt, nat_le, int_lt, int_le, int_div, int_rem, unsigned_abs, bit_and, bit_or, bit_xor, if◌then◌else◌, Result, Ok, Err}
 use Rattle.std.specs.Int.{int_div_euclid, int_rem_euclid}
 use Rattle.ir_core.specs.declared.types.Width.{Width}
 use Rattle.ir_core.specs.declared.types.Width.TheVariants.{W1, W8, W16, W32, W64}
@@ -103,9 +103,9 @@ is_poison op flags w a b = false
 -- what an operator gives on two words
 abbrev pub binary : BinOp → Flags → ℕ → ℕ → ℕ → Result ℕ OpCause
 binary op flags w a b =
-  if is_divide op w a b then Err Divide
-  else if is_poison op flags w a b then Err Poison
-  else Ok (reduced w (whole op w a b))
+    if is_divide op w a b then Err Divide
+    else if is_poison op flags w a b then Err Poison
+    else Ok (reduced w (whole op w a b))
 
 -- ---- predicates ('icmp' Instruction)
 

@@ -1,11 +1,11 @@
 //! The binary operators on words of one width (LLVM Language Reference, 'Binary Operations', 'Bitwise
 //! Binary Operations').
-ghost use Rattle.std.specs.Prelude.{◌≡◌, ◌+◌, ◌*◌, ◌%◌, ◌^◌, ◌<◌, ◌≤◌, ◌+ℤ◌, ◌-ℤ◌, ◌*ℤ◌, pos, false, ◌==◌, ◌&&◌, int_div, int_rem};
+ghost use Rattle.std.specs.Prelude.{◌≡◌, ◌+◌, ◌*◌, ◌%◌, ◌^◌, ◌<◌, ◌≤◌, ◌+ℤ◌, ◌-ℤ◌, ◌*ℤ◌, pos, false, ◌==◌, ◌&&◌, int_div, int_rem, IfOk};
 ghost use Rattle.std.specs.Int.{int_div_euclid};
 ghost use Rattle.op_table.specs.Operators.{IsWidth, sv, is_word, is_signed, is_divide, reduced, least, minus_one, binary};
 
-use crate::words::{Word, lies_within, low_bits, quotient_and_remainder, signed_low_bits};
 use crate::OpCause;
+use crate::words::{Word, lies_within, low_bits, quotient_and_remainder, signed_low_bits};
 use ir_core::{BinOp, Flags};
 
 /// Whether a number of 64 bits, if it is one, is a word.
@@ -74,7 +74,7 @@ impl<const W: u32> Word<W> {
     }
 
     #[tactic(auto, using(crate::proofs::Powers::mod_again))]
-    fn sum(&self, other: &Self) -> Self
+    pub(crate) fn sum(&self, other: &Self) -> Self
         requires { IsWidth W }
         ensures { result ≡ (self.now + other.now) % 2 ^ W }
     {
@@ -82,7 +82,7 @@ impl<const W: u32> Word<W> {
     }
 
     #[tactic(auto, using(crate::proofs::Powers::difference_mod))]
-    fn difference(&self, other: &Self) -> Self
+    pub(crate) fn difference(&self, other: &Self) -> Self
         requires { IsWidth W }
         ensures { result ≡ reduced W (pos self.now -ℤ pos other.now) }
     {
@@ -281,7 +281,7 @@ impl<const W: u32> Word<W> {
     }
 
     /// A binary operator on two words.
-    pub fn binary(op: BinOp, flags: Flags, a: &Self, b: &Self) -> Result<Self, OpCause>
+    pub(crate) fn binary(op: BinOp, flags: Flags, a: &Self, b: &Self) -> Result<Self, OpCause>
         requires { IsWidth W }
         ensures { result ≡ binary op flags W a.now b.now }
     {
@@ -299,6 +299,20 @@ impl<const W: u32> Word<W> {
             BinOp::And => Ok(Self::wrapped(a.get() & b.get())),
             BinOp::Or => Ok(Self::wrapped(a.get() | b.get())),
             BinOp::Xor => Ok(Self::wrapped(a.get() ^ b.get())),
+        }
+    }
+
+    /// A binary operator on the words of two numbers.
+    pub(crate) fn operate(op: BinOp, flags: Flags, a: u64, b: u64) -> Result<u64, OpCause>
+        requires width { IsWidth W }
+        requires left { a < 2 ^ W }
+        requires right { b < 2 ^ W }
+        ensures value { result ≡ binary op flags W a b }
+        ensures below { IfOk result (λ word. word < 2 ^ W) }
+    {
+        match Self::binary(op, flags, &Self::below(a), &Self::below(b)) {
+            Ok(word) => Ok(word.get()),
+            Err(cause) => Err(cause),
         }
     }
 }

@@ -6,8 +6,11 @@
 #![tactic(auto)]
 
 mod arithmetic;
+mod predicates;
+mod tables;
 mod words;
 
+pub use tables::{bin, cast, cmp, rmw};
 pub use words::Word;
 
 /// Why an operator has no result on two words (LLVM Language Reference, 'Binary Operations').

@@ -86,7 +86,7 @@ impl<const W: u32> Word<W> {
     }
 
     /// The word of a number that is below 2^W.
-    pub fn below(v: u64) -> Self
+    pub(crate) fn below(v: u64) -> Self
         requires { v < 2 ^ W }
         ensures { result ≡ v }
     {
@@ -94,7 +94,7 @@ impl<const W: u32> Word<W> {
     }
 
     /// The greatest word.
-    pub fn greatest() -> u64
+    pub(crate) fn greatest() -> u64
         requires { IsWidth W }
         ensures { result ≡ 2 ^ W - 1 }
     {
@@ -102,7 +102,7 @@ impl<const W: u32> Word<W> {
     }
 
     /// The word that has the highest bit alone: the least signed value.
-    pub fn half() -> u64
+    pub(crate) fn half() -> u64
         requires { IsWidth W }
         ensures { result ≡ 2 ^ (W - 1) }
     {
@@ -110,7 +110,7 @@ impl<const W: u32> Word<W> {
     }
 
     /// A number modulo 2^W.
-    pub fn wrapped(n: u64) -> Self
+    pub(crate) fn wrapped(n: u64) -> Self
         requires { IsWidth W }
         ensures { result ≡ n % 2 ^ W }
     {
@@ -120,7 +120,7 @@ impl<const W: u32> Word<W> {
     }
 
     /// The signed value.
-    pub fn signed(&self) -> i64
+    pub(crate) fn signed(&self) -> i64
         requires { IsWidth W }
         ensures value { result ≡ sv W self.now }
         ensures below { self.now < 2 ^ W }
@@ -136,7 +136,7 @@ impl<const W: u32> Word<W> {
     }
 
     /// A signed number modulo 2^W.
-    pub fn wrapped_signed(z: i64) -> Self
+    pub(crate) fn wrapped_signed(z: i64) -> Self
         requires { IsWidth W }
         ensures { result ≡ reduced W z }
     {
@@ -144,10 +144,37 @@ impl<const W: u32> Word<W> {
     }
 
     /// Whether a signed number is the signed value of a word.
-    pub fn is_signed(z: i64) -> bool
+    pub(crate) fn is_signed(z: i64) -> bool
         requires { IsWidth W }
         ensures { result ≡ is_signed W z }
     {
         lies_within(z, Self::half())
+    }
+
+    /// The signed value of the word of a number.
+    pub(crate) fn signed_value(n: u64) -> i64
+        requires width { IsWidth W }
+        requires word { n < 2 ^ W }
+        ensures { result ≡ sv W n }
+    {
+        Self::below(n).signed()
+    }
+
+    /// The word of a signed number modulo 2^W.
+    pub(crate) fn signed_word(z: i64) -> u64
+        requires { IsWidth W }
+        ensures value { result ≡ reduced W z }
+        ensures below { result < 2 ^ W }
+    {
+        Self::wrapped_signed(z).get()
+    }
+
+    /// The word of a number modulo 2^W.
+    pub(crate) fn low_word(n: u64) -> u64
+        requires { IsWidth W }
+        ensures value { result ≡ n % 2 ^ W }
+        ensures below { result < 2 ^ W }
+    {
+        Self::wrapped(n).get()
     }
 }

@@ -6,7 +6,7 @@ use Rattle.op_table.proofs.words.signed_low_bits.Goals as goal
 
 pub returns : goal.returns
 returns c =
-  c.low_bits.ensures
-  ∙ ap (λ (n : ℕ). n % 2 ^ c.args.count) c.cast_unsigned.ensures
-  ∙ ap (λ (z : ℤ). cast_unsigned w64 z % 2 ^ c.args.count) (to_z-of_z w64 c.args.z c.ranges.z)
-  ∙ signed_mod c.args.z c.args.count c.ranges.z (omega arith)
+    c.low_bits.ensures
+    ∙ ap (λ (n : ℕ). n % 2 ^ c.args.count) c.cast_unsigned.ensures
+    ∙ ap (λ (z : ℤ). cast_unsigned w64 z % 2 ^ c.args.count) (to_z-of_z w64 c.args.z c.ranges.z)
+    ∙ signed_mod c.args.z c.args.count c.ranges.z (omega arith)

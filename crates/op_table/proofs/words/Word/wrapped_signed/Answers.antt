@@ -6,7 +6,7 @@ use Rattle.op_table.proofs.words.Word.wrapped_signed.Goals as goal
 
 pub returns : goal.returns
 returns g c =
-  c.wrapped.ensures
-  ∙ ap (λ (n : ℕ). n % 2 ^ g.row.W) c.cast_unsigned.ensures
-  ∙ ap (λ (z : ℤ). cast_unsigned w64 z % 2 ^ g.row.W) (to_z-of_z w64 c.args.z c.ranges.z)
-  ∙ signed_mod c.args.z g.row.W c.ranges.z c.requires.1
+    c.wrapped.ensures
+    ∙ ap (λ (n : ℕ). n % 2 ^ g.row.W) c.cast_unsigned.ensures
+    ∙ ap (λ (z : ℤ). cast_unsigned w64 z % 2 ^ g.row.W) (to_z-of_z w64 c.args.z c.ranges.z)
+    ∙ signed_mod c.args.z g.row.W c.ranges.z c.requires.1
