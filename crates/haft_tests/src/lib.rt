@@ -11,6 +11,8 @@ mod instructions;
 #[cfg(test)]
 mod names;
 #[cfg(test)]
+mod operators;
+#[cfg(test)]
 mod parts;
 #[cfg(test)]
 mod pieces;
