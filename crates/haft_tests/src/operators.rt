@@ -148,18 +148,37 @@ fn is_cast(op: CastOp, from: Width, to: Width) -> bool
     }
 }
 
-/// What stands beside a name.
+/// What stands beside a name in a list.
 macro_rules! named {
-    ($rt:expr, $names:expr, $cells:expr) => {{
-        let name = $cells.next().expect($rt, "a line is short");
-        let mut found = None;
+    ($rt:expr, $names:expr, $cell:expr) => {{
+        let name = $cell.expect($rt, "a line is short");
         for (known, item) in $names {
             if known == name {
-                found = Some(item);
+                return item;
             }
         }
-        found.expect($rt, "a name is unknown")
+        panic!($rt; "{name} is unknown")
     }};
+}
+
+fn width_of(rt: &impl Abort, cell: Option<&str>) -> Width {
+    named!(rt, WIDTHS, cell)
+}
+
+fn operator_of(rt: &impl Abort, cell: Option<&str>) -> BinOp {
+    named!(rt, OPERATORS, cell)
+}
+
+fn predicate_of(rt: &impl Abort, cell: Option<&str>) -> Pred {
+    named!(rt, PREDICATES, cell)
+}
+
+fn cast_of(rt: &impl Abort, cell: Option<&str>) -> CastOp {
+    named!(rt, CASTS, cell)
+}
+
+fn update_of(rt: &impl Abort, cell: Option<&str>) -> RmwOp {
+    named!(rt, UPDATES, cell)
 }
 
 /// The number of a cell.
@@ -193,8 +212,8 @@ fn seconds(op: BinOp, w: Width) -> &'static [u64] {
 /// Compares the results of a line without flags.
 fn check_operator(rt: &impl Abort, line: &str) {
     let mut cells = line.split_ascii_whitespace();
-    let op = named!(rt, OPERATORS, cells);
-    let w = named!(rt, WIDTHS, cells);
+    let op = operator_of(rt, cells.next());
+    let w = width_of(rt, cells.next());
     for a in words(w) {
         for b in seconds(op, w) {
             let want = number(rt, cells.next());
@@ -219,9 +238,9 @@ fn flags_of(word: &str) -> Flags {
 /// Compares the result of a line with a flag.
 fn check_flagged(rt: &impl Abort, line: &str) {
     let mut cells = line.split_ascii_whitespace();
-    let op = named!(rt, OPERATORS, cells);
+    let op = operator_of(rt, cells.next());
     let flags = flags_of(cells.next().expect(rt, "a line is short"));
-    let w = named!(rt, WIDTHS, cells);
+    let w = width_of(rt, cells.next());
     let a = number(rt, cells.next());
     let b = number(rt, cells.next());
     assert!(rt; 0 <= a && a < 18_446_744_073_709_551_616);
@@ -254,8 +273,8 @@ fn compared(rt: &impl Abort, pred: Pred, w: Width, a: u64, b: u64) -> bool {
 /// Compares the answers of a line.
 fn check_predicate(rt: &impl Abort, line: &str) {
     let mut cells = line.split_ascii_whitespace();
-    let pred = named!(rt, PREDICATES, cells);
-    let w = named!(rt, WIDTHS, cells);
+    let pred = predicate_of(rt, cells.next());
+    let w = width_of(rt, cells.next());
     for a in words(w) {
         for b in words(w) {
             let want = number(rt, cells.next()) == 1;
@@ -278,9 +297,9 @@ fn converted(rt: &impl Abort, op: CastOp, from: Width, to: Width, a: u64) -> u64
 /// Compares the results of a line.
 fn check_cast(rt: &impl Abort, line: &str) {
     let mut cells = line.split_ascii_whitespace();
-    let op = named!(rt, CASTS, cells);
-    let from = named!(rt, WIDTHS, cells);
-    let to = named!(rt, WIDTHS, cells);
+    let op = cast_of(rt, cells.next());
+    let from = width_of(rt, cells.next());
+    let to = width_of(rt, cells.next());
     for a in words(from) {
         let want = number(rt, cells.next());
         assert!(rt;
@@ -301,8 +320,8 @@ fn updated(rt: &impl Abort, op: RmwOp, w: Width, old: u64, arg: u64) -> u64 {
 /// Compares the new words of a line.
 fn check_update(rt: &impl Abort, line: &str) {
     let mut cells = line.split_ascii_whitespace();
-    let op = named!(rt, UPDATES, cells);
-    let w = named!(rt, WIDTHS, cells);
+    let op = update_of(rt, cells.next());
+    let w = width_of(rt, cells.next());
     for old in words(w) {
         for arg in words(w) {
             let want = number(rt, cells.next());

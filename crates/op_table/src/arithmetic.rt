@@ -38,6 +38,7 @@ macro_rules! poison_if {
 }
 
 impl<const W: u32> Word<W> {
+    /// Whether the sum is a word.
     fn sum_is_word(&self, other: &Self) -> bool
         requires { IsWidth W }
         ensures { result ≡ is_word W (self.now + other.now) }
@@ -45,6 +46,7 @@ impl<const W: u32> Word<W> {
         is_word!(self.get().checked_add(other.get()))
     }
 
+    /// Whether the sum of the signed values is a signed value.
     fn sum_is_signed(&self, other: &Self) -> bool
         requires { IsWidth W }
         ensures { result ≡ is_signed W (sv W self.now +ℤ sv W other.now) }
@@ -52,6 +54,7 @@ impl<const W: u32> Word<W> {
         is_signed!(self.signed().checked_add(other.signed()))
     }
 
+    /// Whether the difference of the signed values is a signed value.
     fn difference_is_signed(&self, other: &Self) -> bool
         requires { IsWidth W }
         ensures { result ≡ is_signed W (sv W self.now -ℤ sv W other.now) }
@@ -59,6 +62,7 @@ impl<const W: u32> Word<W> {
         is_signed!(self.signed().checked_sub(other.signed()))
     }
 
+    /// Whether the product is a word.
     fn product_is_word(&self, other: &Self) -> bool
         requires { IsWidth W }
         ensures { result ≡ is_word W (self.now * other.now) }
@@ -66,6 +70,7 @@ impl<const W: u32> Word<W> {
         is_word!(self.get().checked_mul(other.get()))
     }
 
+    /// Whether the product of the signed values is a signed value.
     fn product_is_signed(&self, other: &Self) -> bool
         requires { IsWidth W }
         ensures { result ≡ is_signed W (sv W self.now *ℤ sv W other.now) }
@@ -73,6 +78,7 @@ impl<const W: u32> Word<W> {
         is_signed!(self.signed().checked_mul(other.signed()))
     }
 
+    /// The sum modulo 2^W.
     #[tactic(auto, using(crate::proofs::Powers::mod_again))]
     pub(crate) fn sum(&self, other: &Self) -> Self
         requires { IsWidth W }
@@ -81,6 +87,7 @@ impl<const W: u32> Word<W> {
         Self::wrapped(self.get().wrapping_add(other.get()))
     }
 
+    /// The difference modulo 2^W.
     #[tactic(auto, using(crate::proofs::Powers::difference_mod))]
     pub(crate) fn difference(&self, other: &Self) -> Self
         requires { IsWidth W }
@@ -89,6 +96,7 @@ impl<const W: u32> Word<W> {
         Self::wrapped(self.get().wrapping_sub(other.get()))
     }
 
+    /// The product modulo 2^W.
     #[tactic(auto, using(crate::proofs::Powers::mod_again))]
     fn product(&self, other: &Self) -> Self
         requires { IsWidth W }
@@ -97,7 +105,7 @@ impl<const W: u32> Word<W> {
         Self::wrapped(self.get().wrapping_mul(other.get()))
     }
 
-    /// `add`
+    /// 'add' Instruction.
     fn add(&self, other: &Self, flags: Flags) -> Result<Self, OpCause>
         requires { IsWidth W }
         ensures { result ≡ binary BinOp.Add flags W self.now other.now }
@@ -109,7 +117,7 @@ impl<const W: u32> Word<W> {
         Ok(self.sum(other))
     }
 
-    /// `sub`
+    /// 'sub' Instruction.
     fn sub(&self, other: &Self, flags: Flags) -> Result<Self, OpCause>
         requires { IsWidth W }
         ensures { result ≡ binary BinOp.Sub flags W self.now other.now }
@@ -121,7 +129,7 @@ impl<const W: u32> Word<W> {
         Ok(self.difference(other))
     }
 
-    /// `mul`
+    /// 'mul' Instruction.
     fn mul(&self, other: &Self, flags: Flags) -> Result<Self, OpCause>
         requires { IsWidth W }
         ensures { result ≡ binary BinOp.Mul flags W self.now other.now }
@@ -133,7 +141,7 @@ impl<const W: u32> Word<W> {
         Ok(self.product(other))
     }
 
-    /// `udiv`
+    /// 'udiv' Instruction.
     fn udiv(&self, other: &Self, flags: Flags) -> Result<Self, OpCause>
         requires { IsWidth W }
         ensures { result ≡ binary BinOp.Udiv flags W self.now other.now }
@@ -146,7 +154,7 @@ impl<const W: u32> Word<W> {
         Ok(Self::wrapped(a / b))
     }
 
-    /// `urem`
+    /// 'urem' Instruction. It has no flags.
     fn urem(&self, other: &Self, flags: Flags) -> Result<Self, OpCause>
         requires { IsWidth W }
         ensures { result ≡ binary BinOp.Urem flags W self.now other.now }
@@ -176,7 +184,7 @@ impl<const W: u32> Word<W> {
         quotient_and_remainder(self.signed(), other.signed())
     }
 
-    /// `sdiv`
+    /// 'sdiv' Instruction.
     fn sdiv(&self, other: &Self, flags: Flags) -> Result<Self, OpCause>
         requires { IsWidth W }
         ensures { result ≡ binary BinOp.Sdiv flags W self.now other.now }
@@ -189,7 +197,7 @@ impl<const W: u32> Word<W> {
         Ok(Self::wrapped_signed(quotient))
     }
 
-    /// `srem`
+    /// 'srem' Instruction. It has no flags.
     fn srem(&self, other: &Self, flags: Flags) -> Result<Self, OpCause>
         requires { IsWidth W }
         ensures { result ≡ binary BinOp.Srem flags W self.now other.now }
@@ -201,6 +209,7 @@ impl<const W: u32> Word<W> {
         Ok(Self::wrapped_signed(remainder))
     }
 
+    /// Whether the number times 2^by is a word.
     fn shifted_is_word(&self, by: &Self) -> bool
         requires width { IsWidth W }
         requires shift { by.now < W }
@@ -209,6 +218,7 @@ impl<const W: u32> Word<W> {
         self.get() <= Self::greatest() >> by.get()
     }
 
+    /// Whether the signed value times 2^by is a signed value.
     fn shifted_is_signed(&self, by: &Self) -> bool
         requires width { IsWidth W }
         requires shift { by.now < W }
@@ -217,6 +227,7 @@ impl<const W: u32> Word<W> {
         lies_within(self.signed(), Self::half() >> by.get())
     }
 
+    /// The number times 2^by, modulo 2^W.
     #[tactic(auto, using(crate::proofs::Powers::mod_again))]
     fn shifted_left(&self, by: &Self) -> Self
         requires width { IsWidth W }
@@ -226,7 +237,7 @@ impl<const W: u32> Word<W> {
         Self::wrapped(self.get() << by.get())
     }
 
-    /// The signed value by so many places down, and whether bits were lost.
+    /// The signed value divided by 2^by, rounded down.
     fn shifted_down(&self, by: &Self) -> Self
         requires width { IsWidth W }
         requires shift { by.now < W }
@@ -235,6 +246,7 @@ impl<const W: u32> Word<W> {
         Self::wrapped_signed(self.signed() >> by.get())
     }
 
+    /// The remainder that such a division leaves.
     fn signed_low_bits(&self, by: &Self) -> u64
         requires width { IsWidth W }
         requires shift { by.now < W }
@@ -243,7 +255,7 @@ impl<const W: u32> Word<W> {
         signed_low_bits(self.signed(), by.get())
     }
 
-    /// `shl`
+    /// 'shl' Instruction.
     fn shl(&self, by: &Self, flags: Flags) -> Result<Self, OpCause>
         requires { IsWidth W }
         ensures { result ≡ binary BinOp.Shl flags W self.now by.now }
@@ -256,7 +268,7 @@ impl<const W: u32> Word<W> {
         Ok(self.shifted_left(by))
     }
 
-    /// `lshr`
+    /// 'lshr' Instruction.
     fn lshr(&self, by: &Self, flags: Flags) -> Result<Self, OpCause>
         requires { IsWidth W }
         ensures { result ≡ binary BinOp.Lshr flags W self.now by.now }
@@ -268,7 +280,7 @@ impl<const W: u32> Word<W> {
         Ok(Self::wrapped(self.get() >> by.get()))
     }
 
-    /// `ashr`
+    /// 'ashr' Instruction.
     fn ashr(&self, by: &Self, flags: Flags) -> Result<Self, OpCause>
         requires { IsWidth W }
         ensures { result ≡ binary BinOp.Ashr flags W self.now by.now }
