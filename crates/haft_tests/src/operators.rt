@@ -186,7 +186,10 @@ fn number(rt: &impl Abort, cell: Option<&str>) -> i128 {
     let cell = cell.expect(rt, "a line is short");
     match cell.parse::<u64>() {
         Ok(n) => n as i128,
-        Err(_) => { if cell == "D" { D } else { P } }
+        Err(_) => {
+            assert!(rt; cell == "D" || cell == "P");
+            if cell == "D" { D } else { P }
+        }
     }
 }
 

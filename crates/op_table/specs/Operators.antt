@@ -101,7 +101,7 @@ is_poison Ashr flags w a b = nat_le w b || flags.exact && not (reduced b (sv w a
 is_poison op flags w a b = false
 
 -- what an operator gives on two words
-abbrev pub binary : BinOp → Flags → ℕ → ℕ → ℕ → Result ℕ OpCause
+unfoldable pub binary : BinOp → Flags → ℕ → ℕ → ℕ → Result ℕ OpCause
 binary op flags w a b =
     if is_divide op w a b then Err Divide
     else if is_poison op flags w a b then Err Poison
@@ -109,7 +109,7 @@ binary op flags w a b =
 
 -- ---- predicates ('icmp' Instruction)
 
-abbrev pub compares : Pred → ℕ → ℕ → ℕ → Bool
+unfoldable pub compares : Pred → ℕ → ℕ → ℕ → Bool
 compares Eq w a b = a == b
 compares Ne w a b = not (a == b)
 compares Ugt w a b = nat_lt b a
@@ -132,7 +132,7 @@ IsCast Ptrtoint from to = from ≡ W64
 IsCast Inttoptr from to = to ≡ W64
 
 -- what a cast gives, between words of so many bits
-abbrev pub converted : CastOp → ℕ → ℕ → ℕ → ℕ
+unfoldable pub converted : CastOp → ℕ → ℕ → ℕ → ℕ
 converted Zext from to a = a
 converted Sext from to a = reduced to (sv from a)
 converted Trunc from to a = a % 2 ^ to
@@ -141,7 +141,7 @@ converted Inttoptr from to a = a % 2 ^ to
 
 -- ---- atomic operations ('atomicrmw' Instruction): the new word
 
-abbrev pub updated : RmwOp → ℕ → ℕ → ℕ → ℕ
+unfoldable pub updated : RmwOp → ℕ → ℕ → ℕ → ℕ
 updated atomics.Xchg w old arg = arg
 updated atomics.Add w old arg = reduced w (whole Add w old arg)
 updated atomics.Sub w old arg = reduced w (whole Sub w old arg)

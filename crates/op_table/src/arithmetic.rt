@@ -106,6 +106,7 @@ impl<const W: u32> Word<W> {
     }
 
     /// 'add' Instruction.
+    #[tactic(auto, unfolding(crate::specs::Operators::binary))]
     fn add(&self, other: &Self, flags: Flags) -> Result<Self, OpCause>
         requires { IsWidth W }
         ensures { result ≡ binary BinOp.Add flags W self.now other.now }
@@ -118,6 +119,7 @@ impl<const W: u32> Word<W> {
     }
 
     /// 'sub' Instruction.
+    #[tactic(auto, unfolding(crate::specs::Operators::binary))]
     fn sub(&self, other: &Self, flags: Flags) -> Result<Self, OpCause>
         requires { IsWidth W }
         ensures { result ≡ binary BinOp.Sub flags W self.now other.now }
@@ -130,6 +132,7 @@ impl<const W: u32> Word<W> {
     }
 
     /// 'mul' Instruction.
+    #[tactic(auto, unfolding(crate::specs::Operators::binary))]
     fn mul(&self, other: &Self, flags: Flags) -> Result<Self, OpCause>
         requires { IsWidth W }
         ensures { result ≡ binary BinOp.Mul flags W self.now other.now }
@@ -142,6 +145,7 @@ impl<const W: u32> Word<W> {
     }
 
     /// 'udiv' Instruction.
+    #[tactic(auto, unfolding(crate::specs::Operators::binary))]
     fn udiv(&self, other: &Self, flags: Flags) -> Result<Self, OpCause>
         requires { IsWidth W }
         ensures { result ≡ binary BinOp.Udiv flags W self.now other.now }
@@ -155,6 +159,7 @@ impl<const W: u32> Word<W> {
     }
 
     /// 'urem' Instruction. It has no flags.
+    #[tactic(auto, unfolding(crate::specs::Operators::binary))]
     fn urem(&self, other: &Self, flags: Flags) -> Result<Self, OpCause>
         requires { IsWidth W }
         ensures { result ≡ binary BinOp.Urem flags W self.now other.now }
@@ -185,6 +190,7 @@ impl<const W: u32> Word<W> {
     }
 
     /// 'sdiv' Instruction.
+    #[tactic(auto, unfolding(crate::specs::Operators::binary))]
     fn sdiv(&self, other: &Self, flags: Flags) -> Result<Self, OpCause>
         requires { IsWidth W }
         ensures { result ≡ binary BinOp.Sdiv flags W self.now other.now }
@@ -198,6 +204,7 @@ impl<const W: u32> Word<W> {
     }
 
     /// 'srem' Instruction. It has no flags.
+    #[tactic(auto, unfolding(crate::specs::Operators::binary))]
     fn srem(&self, other: &Self, flags: Flags) -> Result<Self, OpCause>
         requires { IsWidth W }
         ensures { result ≡ binary BinOp.Srem flags W self.now other.now }
@@ -256,6 +263,7 @@ impl<const W: u32> Word<W> {
     }
 
     /// 'shl' Instruction.
+    #[tactic(auto, unfolding(crate::specs::Operators::binary))]
     fn shl(&self, by: &Self, flags: Flags) -> Result<Self, OpCause>
         requires { IsWidth W }
         ensures { result ≡ binary BinOp.Shl flags W self.now by.now }
@@ -269,6 +277,7 @@ impl<const W: u32> Word<W> {
     }
 
     /// 'lshr' Instruction.
+    #[tactic(auto, unfolding(crate::specs::Operators::binary))]
     fn lshr(&self, by: &Self, flags: Flags) -> Result<Self, OpCause>
         requires { IsWidth W }
         ensures { result ≡ binary BinOp.Lshr flags W self.now by.now }
@@ -281,6 +290,7 @@ impl<const W: u32> Word<W> {
     }
 
     /// 'ashr' Instruction.
+    #[tactic(auto, unfolding(crate::specs::Operators::binary))]
     fn ashr(&self, by: &Self, flags: Flags) -> Result<Self, OpCause>
         requires { IsWidth W }
         ensures { result ≡ binary BinOp.Ashr flags W self.now by.now }
@@ -293,6 +303,7 @@ impl<const W: u32> Word<W> {
     }
 
     /// A binary operator on two words.
+    #[tactic(auto, unfolding(crate::specs::Operators::binary))]
     pub(crate) fn binary(op: BinOp, flags: Flags, a: &Self, b: &Self) -> Result<Self, OpCause>
         requires { IsWidth W }
         ensures { result ≡ binary op flags W a.now b.now }

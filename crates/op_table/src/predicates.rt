@@ -8,6 +8,7 @@ use ir_core::{Pred, RmwOp};
 
 impl<const W: u32> Word<W> {
     /// Whether a predicate holds of two words.
+    #[tactic(auto, unfolding(crate::specs::Operators::compares))]
     pub(crate) fn compare(pred: Pred, a: u64, b: u64) -> bool
         requires width { IsWidth W }
         requires left { a < 2 ^ W }
@@ -30,6 +31,7 @@ impl<const W: u32> Word<W> {
     }
 
     /// The new word of an atomic operation.
+    #[tactic(auto, unfolding(crate::specs::Operators::updated))]
     pub(crate) fn update(op: RmwOp, old: u64, arg: u64) -> u64
         requires width { IsWidth W }
         requires old { old < 2 ^ W }

@@ -69,7 +69,7 @@ fn low_word(w: Width, n: u64) -> u64
 /// What a cast gives on a word of `from` bits, as a word of `to` bits; a pointer is a word of 64 bits (LLVM
 /// Language Reference, 'Conversion Operations').
 #[inline]
-#[tactic(auto, using(std::proofs::lemmas::Nat::pow_below))]
+#[tactic(auto, using(std::proofs::lemmas::Nat::pow_below), unfolding(crate::specs::Operators::converted))]
 pub fn cast(op: CastOp, from: Width, to: Width, a: u64) -> u64
     requires word { a < 2 ^ bits from }
     requires widths { IsCast op from to }
