@@ -13,6 +13,8 @@ mod lines;
 #[cfg(test)]
 mod names;
 #[cfg(test)]
+mod operators;
+#[cfg(test)]
 mod parts;
 #[cfg(test)]
 mod pieces;
