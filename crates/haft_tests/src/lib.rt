@@ -7,6 +7,8 @@ mod calls;
 #[cfg(test)]
 mod faults;
 #[cfg(test)]
+mod instruction_lines;
+#[cfg(test)]
 mod instructions;
 #[cfg(test)]
 mod lines;
@@ -20,5 +22,7 @@ mod parts;
 mod pieces;
 #[cfg(test)]
 mod schedules;
+#[cfg(test)]
+mod shown;
 #[cfg(test)]
 mod texts;
