@@ -5,7 +5,7 @@ use Rattle.std.proofs.lemmas.List.{length-map}
 use Rattle.ir_core.specs.declared.text.Token.{Token}
 use Rattle.ir_grammar.specs.Tokens.{token_of, tokens_of}
 use Rattle.std.proofs.lemmas.Bool.{cases_lt}
-use Rattle.ir_grammar.specs.Parts.{Tok, Read, Part, Begins, IsUnfit, Verdict, Stands, Unfit}
+use Rattle.ir_grammar.specs.Parts.{Tok, Read, Part, Begins, IsUnfit, IsDecided, Verdict, Stands, Unfit}
 use Rattle.ir_grammar.proofs.Reading.{IsRead, AtEnd, StopsAt, not_read, read_ok, append_nil}
 
 -- as many tokens with their texts as without
@@ -87,3 +87,7 @@ module _ {A : Type 0} (means : List Tok → A → Type 0) (ts : List Tok) where
 
   pub same_place : (j k : ℕ) → IsUnfit means ts j → IsUnfit means ts k → j ≡ k
   same_place j k a b = ⊎_elim (λ lt. absurd (not_later j k a b lt)) (λ ge. ⊎_elim (λ lt. absurd (not_later k j b a lt)) (λ le. omega arith) (cases_lt k j)) (cases_lt j k)
+
+-- a part that goes to the end of the line decides
+pub decided : {A : Type 0} {p : Part A} → IsRead AtEnd p → IsDecided p.means
+decided {A} {p} law = record { one_value = same_value law; one_place = same_place p.means; verdict = verdict law; never_both = λ ts a k h u. u.nothing a h }

@@ -215,3 +215,10 @@ pub record IsUnfit {A : Type 0} (means : List Tok → A → Type 0) (ts : List T
 pub data Verdict {A : Type 0} (means : List Tok → A → Type 0) (ts : List Tok) : Type 0 where
   Stands : (v : A) → means ts v → Verdict means ts
   Unfit : (k : ℕ) → IsUnfit means ts k → Verdict means ts
+
+-- tokens stand for one value or have one unfit place, and never both
+pub record IsDecided {A : Type 0} (means : List Tok → A → Type 0) : Type 0 where
+  pub one_value : (ts : List Tok) (a b : A) → means ts a → means ts b → a ≡ b
+  pub one_place : (ts : List Tok) (j k : ℕ) → IsUnfit means ts j → IsUnfit means ts k → j ≡ k
+  pub verdict : (ts : List Tok) → Verdict means ts
+  pub never_both : (ts : List Tok) (a : A) (k : ℕ) → means ts a → IsUnfit means ts k → ⊥

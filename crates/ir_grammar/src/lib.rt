@@ -13,5 +13,5 @@ mod trees;
 pub use heads::{
     AttributeHead, Flag, FlagSet, PlainOpcode, ResultHead, ResultOpcode, TypeHead, ValueHead,
 };
-pub use laws::{instruction_or_unfit, never_both, one_instruction, one_unfit_place};
+pub use laws::{body_line_or_unfit, instruction_or_unfit, top_line_or_unfit};
 pub use trees::{BodyLine, Head, InitHead, Params, TailHead, TopLine, TopWord};
