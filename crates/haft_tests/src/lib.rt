@@ -26,3 +26,5 @@ mod schedules;
 mod shown;
 #[cfg(test)]
 mod texts;
+#[cfg(test)]
+mod top_lines;

@@ -5,11 +5,11 @@ use ir_core::{
 use std::alloc::Global;
 use std::process::Abort;
 
-fn word(rt: &impl Abort, out: &mut String, word: &str) {
+pub fn word(rt: &impl Abort, out: &mut String, word: &str) {
     out.push_str(word).expect(rt, "no memory for a text");
 }
 
-fn number(rt: &impl Abort, out: &mut String, sign: &str, number: u64) {
+pub fn number(rt: &impl Abort, out: &mut String, sign: &str, number: u64) {
     write!(out, "{sign}{number}").expect(rt, "no memory for a text");
 }
 
@@ -18,7 +18,7 @@ fn local(rt: &impl Abort, out: &mut String, before: &str, at: Loc) {
     number(rt, out, "%", u64::from(at.0));
 }
 
-fn symbol(rt: &impl Abort, out: &mut String, sym: Sym) {
+pub fn symbol(rt: &impl Abort, out: &mut String, sym: Sym) {
     number(rt, out, "@", u64::from(sym.0));
 }
 
@@ -45,7 +45,7 @@ fn flat_type(rt: &impl Abort, out: &mut String, ty: &Ty) {
 }
 
 /// A type, as far as two brackets in one another.
-fn inner_type(rt: &impl Abort, out: &mut String, ty: &Ty) {
+pub fn inner_type(rt: &impl Abort, out: &mut String, ty: &Ty) {
     match ty {
         Ty::Array(count, part) => {
             number(rt, out, "[", *count);
@@ -74,7 +74,7 @@ fn inner_type(rt: &impl Abort, out: &mut String, ty: &Ty) {
     }
 }
 
-fn address(rt: &impl Abort, out: &mut String, gep: &ConstGep) {
+pub fn address(rt: &impl Abort, out: &mut String, gep: &ConstGep) {
     word(rt, out, "getelementptr (");
     inner_type(rt, out, &gep.base);
     word(rt, out, ", ptr ");

@@ -1,7 +1,7 @@
 -- The instruction lines (LLVM Language Reference, 'Instruction Reference'): what the tokens of a line inside a
 -- function stand for.
 --
--- Choices: one form for each instruction, in the order of the language's table. In an instruction that a line
+-- Choices: one form for each instruction: first those with a result, then those without. In an instruction that a line
 -- stands for, a name is told by the place where it begins in the line. Memory orders, alignments, attributes,
 -- words of linkage and metadata are read and dropped. At most 64 brackets stand open at once.
 use Rattle.std.specs.Prelude.{ℕ, nat_eq, ◌||◌, not, Bool, true, false, List, [], ◌∷◌, codes, Option, Some, None, if◌then◌else◌}

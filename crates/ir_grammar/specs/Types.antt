@@ -34,10 +34,11 @@ scalar_word = entry ((codes "i1", types.Int W1) ∷ (codes "i8", types.Int W8) �
 abbrev pub memory_word : List ℕ → Option Ty
 memory_word = entry ((codes "i8", types.Int W8) ∷ (codes "i16", types.Int W16) ∷ (codes "i32", types.Int W32) ∷ (codes "i64", types.Int W64) ∷ (codes "ptr", types.Ptr) ∷ [])
 
--- the types of an `atomicrmw`: `ptr` with `xchg` alone
+-- integers in memory
 abbrev pub number_word : List ℕ → Option Ty
 number_word = entry ((codes "i8", types.Int W8) ∷ (codes "i16", types.Int W16) ∷ (codes "i32", types.Int W32) ∷ (codes "i64", types.Int W64) ∷ [])
 
+-- the types of an `atomicrmw`: `ptr` with `xchg` alone
 abbrev pub rmw_type_word : RmwOp → List ℕ → Option Ty
 rmw_type_word op = elim op as (λ _. List ℕ → Option Ty) [ rmw.Xchg ↦ memory_word | _ ↦ number_word ]
 

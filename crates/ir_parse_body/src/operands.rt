@@ -8,9 +8,6 @@ ghost use Rattle.ir_core.specs.declared.types.Ty.TheVariants as types;
 use ir_core::{GepIdx, Inst, Loc, Ty, Val, Width};
 use ir_parse_parts::{Reader, Stop};
 
-/// The brackets that may be opened inside the parentheses of an operand.
-pub(crate) const INNER: u32 = 63;
-
 /// `ptr V`
 #[tactic(auto, unfolding(ir_grammar::specs::Lines::pointer))]
 pub(crate) fn pointer(reader: &mut Reader) -> Result<Val, Stop>

@@ -1,7 +1,5 @@
 -- What a reader sees of its line, and what a call of it gave.
-use Rattle.std.specs.Prelude.{ℕ, ◌≡◌, ◌-◌, ◌≤◌, List, take, drop, length, map, Result, Ok, Err, Bool, true, ⊤}
-use Rattle.std.specs.Borrow.{Bor}
-use Rattle.ir_core.specs.declared.text.Token.{Token}
+use Rattle.std.specs.Prelude.{◌≡◌, List, Result, Ok, Err, Bool, true, ⊤}
 use Rattle.ir_grammar.specs.Parts.{Tok, Read}
 use Rattle.ir_parse_parts.specs.declared.stops.Stop.{Stop}
 use Rattle.ir_parse_parts.specs.declared.stops.Stop.TheVariants.{Unfit, NoMemory}

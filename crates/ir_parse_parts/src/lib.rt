@@ -1,4 +1,8 @@
 //! The named parts of a line, read from its tokens.
+//!
+//! A `Reader` goes over the tokens of one line. Each method reads one part of the grammar (`specs/` of `ir_grammar`):
+//! its clause says that what it gave, the tokens that it left or the token at which it stopped are what that part makes
+//! of the tokens before (`specs/Reads.antt`). Contracts see a reader as the list of the tokens left.
 #![tactic(auto)]
 
 mod numbers;

@@ -1,4 +1,4 @@
-use Rattle.std.proofs.Common.{◌≡◌, ◌∙◌, sym, true, Ok}
+use Rattle.std.proofs.Common.{◌∙◌, sym, true}
 use Rattle.std.proofs.lemmas.Result.{err_from_is_err_and}
 use Rattle.ir_grammar.specs.Words.{in_table}
 use Rattle.ir_grammar.specs.Tails.{attribute_word, attribute_rest, attributes}

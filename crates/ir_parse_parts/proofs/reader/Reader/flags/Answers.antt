@@ -1,5 +1,5 @@
 use Rattle.std.proofs.Common.{◌∙◌, sym, drop}
-use Rattle.ir_grammar.specs.Words.{with_flag, flag_of, flags}
+use Rattle.ir_grammar.specs.Words.{with_flag, flag_of}
 use Rattle.ir_grammar.proofs.Turns.{some_head, no_head, one_taken, gather_more, gather_over}
 use Rattle.ir_parse_parts.proofs.reader.Reader.flags.Goals as goal
 
