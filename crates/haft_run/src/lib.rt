@@ -9,15 +9,19 @@
 //! crates of their own take their place.
 #![tactic(auto)]
 
+mod building;
 mod frame;
 mod hardening;
 mod machine;
 mod outcome;
 mod printing;
 mod runs;
+mod schedules;
 mod state;
 mod turns;
 
+pub use building::built;
 pub use outcome::{Aborts, RunResult, Stop};
 pub use printing::report;
-pub use runs::run_small;
+pub use runs::{run, run_small};
+pub use schedules::upset_free;
