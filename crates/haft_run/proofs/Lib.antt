@@ -13,3 +13,4 @@ pub mod Defined
 pub mod SmallTexts
 pub mod BuiltModules
 pub mod Tests
+pub mod Upsets

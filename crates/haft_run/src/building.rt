@@ -283,6 +283,7 @@ fn is_program(m: &Module) -> bool
 }
 
 /// Whether all parts of the module are built.
+#[tactic(auto, unfolding(crate::specs::Testing::is_built))]
 fn are_parts(m: &Module) -> bool
     ensures { result ≡ is_built m.now }
 {

@@ -38,7 +38,7 @@ pub fn run_small(alloc: Global, m: &Module, turns: u64) -> Result<RunResult, All
 /// nothing, nor do aborts, and events after the stop change nothing.
 pub fn run(alloc: Global, m: &Module, s: &Schedule) -> Result<RunResult, AllocError>
     requires built { IsBuilt m.now }
-    requires upset_free { IsUpsetFree s.now.lines }
+    requires upset_free { IsUpsetFree (events_of s.now.lines) }
     requires few { length (events_of s.now.lines) < 2 ^ 64 }
     // The result is that of the hardened module's run on the events.
     ensures exact { IfOk result (λ r. r ≡ run_on m.now (machine_events (events_of s.now.lines))) }
