@@ -1,21 +1,18 @@
 -- A built module comes to no undefined step: each register that a line reads was given a word before.
-use Rattle.std.proofs.Common.{ℕ, zero, suc, ◌≡◌, ◌==◌, ◌||◌, List, [], ◌∷◌, ◌++◌, Option, Some, None, Bool, true, false, codes, map, slice_index_or, refl, ap, sym, ◌∙◌, subst}
+use Rattle.std.proofs.Common.{ℕ, zero, suc, ◌≡◌, ◌||◌, List, [], ◌∷◌, ◌++◌, Option, Some, None, Bool, true, false, map, slice_index_or, refl, ap, sym, ◌∙◌, subst}
 use Rattle.std.proofs.lemmas.Bool.{eqb-true}
 use Rattle.std.proofs.lemmas.List.Folds.{list_any-append}
 use Rattle.ir_core.specs.declared.types.Loc.{Loc}
 use Rattle.ir_core.specs.declared.types.Sym.{Sym}
 use Rattle.ir_core.specs.declared.values.Val.{Val}
-use Rattle.ir_core.specs.declared.values.Val.TheVariants as values
 use Rattle.ir_core.specs.declared.values.Declare.{Declare}
 use Rattle.ir_core.specs.declared.instruction.Inst.{Inst}
-use Rattle.ir_core.specs.declared.instruction.Inst.TheVariants as insts
 use Rattle.ir_core.specs.Module.{ModuleParts}
-use Rattle.ir_action.specs.declared.actions.Callee.{Callee}
 use Rattle.ir_action.specs.declared.actions.Callee.TheVariants.{HaftOut, Unknown}
 use Rattle.ir_action.specs.Registers.{get, put}
 use Rattle.ir_action.specs.Action.{callee_of, word_of, destination}
-use Rattle.haft_run.specs.Built.{name_of, assigns, is_assigned, IsOperand, Constant, Register, IsDeclared, AreDeclares, IsLine, Operation, Output, AreLines, return_of, IsBody, IsMain, IsBuilt}
-use Rattle.haft_run.specs.Source.{callees, code_of, blocks_of, insts_of}
+use Rattle.haft_run.specs.Built.{assigns, is_assigned, IsOperand, Constant, Register, IsDeclared, AreDeclares, IsLine, Operation, Output, AreLines, return_of, IsBuilt}
+use Rattle.haft_run.specs.Source.{callees, code_of}
 use Rattle.haft_run.specs.Meaning.{IsDefined}
 use Rattle.haft_run.proofs.Defined.{Ready, ready_is_defined, HasWord, Word, put-here, put-HasWord, on_word-Assigns, assigned-ready, output-ready}
 

@@ -39,7 +39,6 @@ event_kept m h (Turn t) d (IsGoing s answers g) = turn_going m h t s answers d g
 event_kept m h (Turn t) d (IsOver s answers code o) =
     let rests : event m (hardened_functions m) h (Turn t) ≡ h = rw o.stopped refl in
     subst (Simulates m) (sym rests) (IsOver s answers code o)
-
 event_kept m h (Abort t) d (IsGoing s answers g) =
     let rests : event m (hardened_functions m) h (Abort t) ≡ h = rw g.going refl in
     subst (Simulates m) (sym rests) (IsGoing s answers g)

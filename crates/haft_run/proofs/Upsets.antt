@@ -1,11 +1,11 @@
 -- The events of a schedule are free of upsets exactly where its entries are.
-use Rattle.std.proofs.Common.{ℕ, zero, suc, ◌≡◌, ◌&&◌, List, [], ◌∷◌, ◌++◌, true, map, replicate, refl, ap, sym, ◌∙◌}
+use Rattle.std.proofs.Common.{ℕ, zero, suc, ◌≡◌, ◌&&◌, List, [], ◌∷◌, true, map, replicate, refl, ap, ◌∙◌}
 use Rattle.std.specs.List.{list_all, flat_map, range_with_len}
 use Rattle.std.proofs.lemmas.List.Folds.{list_all-append}
 use Rattle.ir_core.specs.declared.types.Tid.{Tid}
 use Rattle.sched_file.specs.declared.entries.Line.{Line}
 use Rattle.sched_file.specs.declared.entries.Line.TheVariants as entries
-use Rattle.sched_file.specs.Events.{Happening, TurnOf, turn_of, mixed, round_turns, mix_turns, events_in, events_of}
+use Rattle.sched_file.specs.Events.{TurnOf, turn_of, mixed, round_turns, mix_turns, events_in, events_of}
 use Rattle.haft_run.specs.Schedule.{is_no_upset, has_no_upset}
 
 same_turns : (thread : Tid) (turns : ℕ) → list_all is_no_upset (replicate turns (TurnOf thread)) ≡ true

@@ -3,7 +3,7 @@
 -- Choices: registers and labels are compared by their numbers, which are the places of their names, each name once.
 -- A constant has no bound here: it is a word of its type already, and a result counts modulo two to the power of the
 -- width. A `ret` gives a constant, since no line has a result of type `i32`.
-use Rattle.std.specs.Prelude.{ℕ, ◌≡◌, ◌==◌, List, [], ◌∷◌, ◌++◌, Option, Some, None, Bool, true, false, IsTrue, codes}
+use Rattle.std.specs.Prelude.{ℕ, ◌≡◌, ◌==◌, List, [], ◌∷◌, ◌++◌, Option, Some, None, Bool, false, IsTrue, codes}
 use Rattle.std.specs.List.{slice_index_or, list_any}
 use Rattle.ir_core.specs.declared.types.Width.TheVariants.{W32, W64}
 use Rattle.ir_core.specs.declared.types.Ty.TheVariants as types

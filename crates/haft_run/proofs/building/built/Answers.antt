@@ -1,4 +1,3 @@
-use Rattle.std.proofs.Common.{sym, ◌∙◌}
 use Rattle.haft_run.proofs.Tests.{is_built-law}
 use Rattle.haft_run.proofs.building.built.Goals as goal
 
