@@ -24,6 +24,7 @@ abbrev pub is_empty : {A : Type 0} → List A → Bool
 is_empty [] = true
 is_empty (x ∷ xs) = false
 
+-- the widths of `i64` and of `i32`
 abbrev pub is_wide : Width → Bool
 is_wide W64 = true
 is_wide width = false
@@ -47,6 +48,7 @@ is_operation Sub = true
 is_operation Mul = true
 is_operation op = false
 
+-- no flag is set
 abbrev pub is_plain : Flags → Bool
 is_plain flags = not flags.nuw && not flags.nsw && not flags.exact
 
@@ -58,10 +60,12 @@ is_operand before value = false
 abbrev pub is_new : Loc → List Inst → Loc → Bool
 is_new label before register = not (register.0 == label.0) && not (is_assigned before register.0)
 
+-- one operand of type `i64`
 abbrev pub is_argument : List Inst → List (Ty × Val) → Bool
 is_argument before (argument ∷ []) = is_i64 argument.0 && is_operand before argument.1
 is_argument before arguments = false
 
+-- one parameter of type `i64`
 abbrev pub is_alone : List Ty → Bool
 is_alone (ty ∷ []) = is_i64 ty
 is_alone tys = false

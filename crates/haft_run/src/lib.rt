@@ -1,9 +1,11 @@
 //! Programs, hardened and run.
 //!
-//! `run_small` hardens a module and runs it on the hardened machine; its result is that of `specs/Hard.antt`
-//! on the image of `hard_ir`'s `specs/Image.antt`. Where the module comes to no undefined step, the result
-//! stands for a run of the source program (`specs/Source.antt`), as `specs/Meaning.antt` says. `report`
-//! writes a result as bytes (`specs/Report.antt`).
+//! `run` takes a module that is built (`built` tells exactly those of `specs/Built.antt`) and a schedule without
+//! upsets (`upset_free`). It hardens the module and runs it on the hardened machine: the result is that of
+//! `specs/Hard.antt` on the image of `hard_ir`'s `specs/Image.antt`, over the schedule's events. A built module
+//! comes to no undefined step, so the result stands for a run of the source program (`specs/Source.antt`), as
+//! `specs/Meaning.antt` says. `report` writes a result as bytes (`specs/Report.antt`). `run_small` is `run` for
+//! turns of thread 0 alone, for any module.
 //!
 //! The passes and the machine are private, and plain by design: they serve one block and one thread, and
 //! crates of their own take their place.
