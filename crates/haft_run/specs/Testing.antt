@@ -1,6 +1,6 @@
 -- How a built module is told, by tests that compute. `Built.antt` says what is meant; what stands here says only how
 -- it is found, and no public clause cites it.
-use Rattle.std.specs.Prelude.{ℕ, ◌≡◌, ◌<◌, ◌==◌, ◌&&◌, nat_lt, not, List, [], ◌∷◌, ◌++◌, Option, Some, None, Bool, true, false, codes}
+use Rattle.std.specs.Prelude.{ℕ, ◌≡◌, ◌+◌, ◌<◌, ◌==◌, ◌&&◌, nat_lt, not, if◌then◌else◌, List, [], ◌∷◌, ◌++◌, Option, Some, None, Bool, true, false, codes}
 use Rattle.std.specs.Str.{bytes_eq}
 use Rattle.ir_core.specs.declared.types.Width.{Width}
 use Rattle.ir_core.specs.declared.types.Width.TheVariants.{W32, W64}
@@ -18,6 +18,7 @@ use Rattle.ir_core.specs.declared.instruction.Block.{Block}
 use Rattle.ir_core.specs.declared.instruction.Inst.{Inst}
 use Rattle.ir_core.specs.declared.instruction.Inst.TheVariants as insts
 use Rattle.ir_core.specs.Module.{ModuleParts, FuncParts}
+use Rattle.ir_action.specs.Action.{destination}
 use Rattle.haft_run.specs.Built.{name_of, is_assigned}
 
 abbrev pub is_empty : {A : Type 0} → List A → Bool
@@ -126,3 +127,12 @@ is_built m = is_empty m.types && is_empty m.globals && are_declares m m.declares
 abbrev pub AreInOrder : Loc → List Inst → Option ℕ → Type 0
 AreInOrder label before None = Unit {0}
 AreInOrder label before (Some next) = (label.0 < next) × ((at : ℕ) → is_assigned before at ≡ (nat_lt label.0 at && nat_lt at next))
+
+-- `next` once a line with this result stands behind the others
+abbrev pub next_result : Option Loc → ℕ → Option ℕ
+next_result None next = Some next
+next_result (Some dst) next = if dst.0 == next then Some (next + 1) else None
+
+abbrev pub next_behind : Inst → Option ℕ → Option ℕ
+next_behind line None = None
+next_behind line (Some next) = next_result (destination line) next

@@ -6,7 +6,7 @@
 //! behind a result of another number the earlier lines are looked through.
 ghost use Rattle.std.specs.Prelude.{◌≡◌, ◌↔◌, ◌++◌, [], ◌∷◌, IsTrue};
 ghost use Rattle.haft_run.specs.Built.{name_of, is_register, assigns, is_assigned, IsBuilt};
-ghost use Rattle.haft_run.specs.Testing.{is_wide, is_narrow, is_i64, is_i32, is_void, is_operation, is_plain, is_operand, is_new, is_argument, is_alone, is_output, are_declares, is_declared, is_line, is_constant, is_return, are_insts, is_one_block, is_main, is_program, is_built, AreInOrder};
+ghost use Rattle.haft_run.specs.Testing.{is_wide, is_narrow, is_i64, is_i32, is_void, is_operation, is_plain, is_operand, is_new, is_argument, is_alone, is_output, are_declares, is_declared, is_line, is_constant, is_return, are_insts, is_one_block, is_main, is_program, is_built, AreInOrder, next_behind};
 
 use crate::frame::destination_of;
 use crate::machine::sym_text;
@@ -219,7 +219,8 @@ impl Before<'_> {
     /// The number behind the last result once this line stands behind the others, where that is still in order.
     fn next_behind(&self, line: &Inst) -> Option<u64>
         requires { AreInOrder self.now.label self.now.lines.now self.now.next }
-        ensures { AreInOrder self.now.label (self.now.lines.now ++ line.now ∷ []) result }
+        ensures order { AreInOrder self.now.label (self.now.lines.now ++ line.now ∷ []) result }
+        ensures next { result ≡ next_behind line.now self.now.next }
     {
         let next = self.next?;
         match destination_of(line) {
