@@ -10,7 +10,7 @@ use Rattle.haft_run.specs.declared.state.Thread.TheVariants.{Absent, Running, Ex
 use Rattle.haft_run.specs.declared.state.Effect.{Effect}
 use Rattle.haft_run.specs.declared.state.Effect.TheVariants.{Acts, Passes, Fails, Traps}
 use Rattle.haft_run.specs.Source.{callees}
-use Rattle.haft_run.specs.Hard.{Machine, Turn, after_effect, fetched, effect_of, frame_after, exited, turned, unless_stopped, event, thread_at, code_of}
+use Rattle.haft_run.specs.Hard.{Machine, Event, Turn, Abort, after_effect, fetched, effect_of, frame_after, exited, turned, happened, unless_stopped, event, thread_at, code_of}
 
 -- an event adds a turn at most
 length-after_effect : (m : ModuleParts) (h : Machine) (t : ℕ) (frame : Frame) (effect : Effect) → length (after_effect m h t frame effect).turns ≤ length h.turns + 1
@@ -37,5 +37,9 @@ length-unless_stopped : (stop : Option Stop) (h next : Machine) → length next.
 length-unless_stopped None h next e = e
 length-unless_stopped (Some stop) h next e = omega arith
 
-pub length-event : (m : ModuleParts) (functions : List (List HBlock)) (h : Machine) (t : ℕ) → length (event m functions h (Turn t)).turns ≤ length h.turns + 1
-length-event m functions h t = length-unless_stopped h.stop h _ (length-turned m functions h t (thread_at h.threads t))
+length-happened : (m : ModuleParts) (functions : List (List HBlock)) (h : Machine) (e : Event) → length (happened m functions h e).turns ≤ length h.turns + 1
+length-happened m functions h (Turn t) = length-turned m functions h t (thread_at h.threads t)
+length-happened m functions h (Abort t) = omega arith
+
+pub length-event : (m : ModuleParts) (functions : List (List HBlock)) (h : Machine) (e : Event) → length (event m functions h e).turns ≤ length h.turns + 1
+length-event m functions h e = length-unless_stopped h.stop h _ (length-happened m functions h e)

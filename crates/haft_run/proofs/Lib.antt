@@ -10,3 +10,7 @@ pub mod Simulation
 pub mod Images
 pub mod Repeats
 pub mod Defined
+pub mod SmallTexts
+pub mod BuiltModules
+pub mod Tests
+pub mod Upsets

@@ -5,7 +5,7 @@ use Rattle.haft_run.specs.declared.state.Thread.TheVariants.{Exiting}
 use Rattle.haft_run.specs.Source as source
 use Rattle.haft_run.specs.Source.{State, Answer, Went, Idle, Undefined, Ended}
 use Rattle.haft_run.specs.Hard as hard
-use Rattle.haft_run.specs.Hard.{Machine, Event, Turn, event}
+use Rattle.haft_run.specs.Hard.{Machine, Event, Turn, Abort, event}
 use Rattle.haft_run.specs.Turns.{hardened_functions, result_of, run_on, turns_of, grouped}
 use Rattle.haft_run.specs.Meaning.{AllWent, code_of, IsDefined, Means}
 use Rattle.haft_run.proofs.Agreement.{Agrees-refl}
@@ -38,6 +38,12 @@ event_kept : (m : ModuleParts) (h : Machine) (e : Event) → IsDefined m → Sim
 event_kept m h (Turn t) d (IsGoing s answers g) = turn_going m h t s answers d g (g.threads t)
 event_kept m h (Turn t) d (IsOver s answers code o) =
     let rests : event m (hardened_functions m) h (Turn t) ≡ h = rw o.stopped refl in
+    subst (Simulates m) (sym rests) (IsOver s answers code o)
+event_kept m h (Abort t) d (IsGoing s answers g) =
+    let rests : event m (hardened_functions m) h (Abort t) ≡ h = rw g.going refl in
+    subst (Simulates m) (sym rests) (IsGoing s answers g)
+event_kept m h (Abort t) d (IsOver s answers code o) =
+    let rests : event m (hardened_functions m) h (Abort t) ≡ h = rw o.stopped refl in
     subst (Simulates m) (sym rests) (IsOver s answers code o)
 
 run_kept : (m : ModuleParts) (h : Machine) (events : List Event) → IsDefined m → Simulates m h → Simulates m (hard.run_from m (hardened_functions m) h events)

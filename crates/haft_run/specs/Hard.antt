@@ -33,9 +33,10 @@ pub record Machine : Type 0 where
   pub turns : List ℕ  -- of the source run that this run stands for
   pub stop : Option Stop
 
--- an event of a schedule
+-- an event: a turn of a thread, or an abort of its transaction
 pub data Event : Type 0 where
   Turn : (thread : ℕ) → Event
+  Abort : (thread : ℕ) → Event
 
 abbrev pub thread_at : List Thread → ℕ → Thread
 thread_at threads t = slice_index_or threads t Absent
@@ -167,8 +168,10 @@ turned m functions h t Absent = h
 turned m functions h t (Running frame) = fetched m h t frame (slice_get (code_of functions frame.function frame.block) frame.index)
 turned m functions h t (Exiting word) = exited h t word
 
+-- an abort changes nothing, since no thread is in a transaction
 abbrev pub happened : ModuleParts → List (List HBlock) → Machine → Event → Machine
 happened m functions h (Turn t) = turned m functions h t (thread_at h.threads t)
+happened m functions h (Abort t) = h
 
 abbrev pub unless_stopped : Option Stop → Machine → Machine → Machine
 unless_stopped None h next = next

@@ -4,3 +4,6 @@ pub mod Turns
 pub mod Report
 pub mod Meaning
 pub mod State
+pub mod Schedule
+pub mod Built
+pub mod Testing

@@ -1,5 +1,4 @@
--- The state for which the machine's fields stand. Small schedules have turns of thread 0 alone, so that
--- it keeps one thread.
+-- The state for which the machine's fields stand. No instruction makes a thread yet, so that it keeps one.
 use Rattle.std.specs.Prelude.{[], ◌∷◌}
 use Rattle.haft_run.specs.declared.machine.Machine.{Machine}
 use Rattle.haft_run.specs.Hard.{Machine as State}

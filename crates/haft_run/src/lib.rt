@@ -1,23 +1,29 @@
 //! Programs, hardened and run.
 //!
-//! `run_small` hardens a module and runs it on the hardened machine; its result is that of `specs/Hard.antt`
-//! on the image of `hard_ir`'s `specs/Image.antt`. Where the module comes to no undefined step, the result
-//! stands for a run of the source program (`specs/Source.antt`), as `specs/Meaning.antt` says. `report`
-//! writes a result as bytes (`specs/Report.antt`).
+//! `run` takes a module that is built (`built` tells exactly those of `specs/Built.antt`) and a schedule without
+//! upsets (`upset_free`). It hardens the module and runs it on the hardened machine: the result is that of
+//! `specs/Hard.antt` on the image of `hard_ir`'s `specs/Image.antt`, over the schedule's events. A built module
+//! comes to no undefined step, so the result stands for a run of the source program (`specs/Source.antt`), as
+//! `specs/Meaning.antt` says. `report` writes a result as bytes (`specs/Report.antt`). `run_small` is `run` for
+//! turns of thread 0 alone, for any module.
 //!
 //! The passes and the machine are private, and plain by design: they serve one block and one thread, and
 //! crates of their own take their place.
 #![tactic(auto)]
 
+mod building;
 mod frame;
 mod hardening;
 mod machine;
 mod outcome;
 mod printing;
 mod runs;
+mod schedules;
 mod state;
 mod turns;
 
+pub use building::built;
 pub use outcome::{Aborts, RunResult, Stop};
 pub use printing::report;
-pub use runs::run_small;
+pub use runs::{run, run_small};
+pub use schedules::upset_free;

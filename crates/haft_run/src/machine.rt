@@ -1,4 +1,4 @@
-//! The hardened machine for turns of thread 0.
+//! The hardened machine, of which thread 0 alone was ever made.
 //!
 //! Its state is that of `specs/Hard.antt`, and each turn is one event of its fold. It is plain by design:
 //! a machine of many threads takes its place.
@@ -7,7 +7,9 @@ ghost use Rattle.std.specs.Option.{option_copied};
 ghost use Rattle.std.specs.List.{slice_index_or};
 ghost use Rattle.ir_action.specs.declared.actions.Request.TheVariants.{Output};
 ghost use Rattle.haft_run.specs.Source.{callees as callees_of, world_after, blocks_of};
-ghost use Rattle.haft_run.specs.Hard.{opening, retired, thread_after, event, turned, fetched, exited, after_effect, code_of, place_of, function_name, label_of, Turn};
+ghost use Rattle.haft_run.specs.Hard.{opening, retired, thread_after, event, run_from, turned, fetched, exited, after_effect, code_of, place_of, function_name, label_of, Turn};
+ghost use Rattle.sched_file.specs.Shown.{shown};
+ghost use Rattle.haft_run.specs.Schedule.{machine_events};
 ghost use Rattle.haft_run.specs.Turns.{result_of};
 
 use crate::state::{Effect, Frame, Thread};
@@ -17,6 +19,7 @@ use hard_ir::{HBlocks, HInst};
 use ir_action::{Action, Callee, Registers, Request};
 use ir_core::{Func, Loc, Module, Name, Out, Outs, Seq, Sym, Tid};
 use itoa::Buffer;
+use sched_file::Event;
 use std::alloc::{AllocError, Global};
 use std::mem;
 
@@ -39,7 +42,7 @@ fn fetch<'a>(functions: &'a [HBlocks], frame: &Frame) -> Option<&'a HInst>
 }
 
 /// The bytes of an `@` name, or none where the module lacks it.
-fn sym_text(m: &Module, sym: Sym) -> &[u8]
+pub fn sym_text(m: &Module, sym: Sym) -> &[u8]
     ensures { result.now ≡ slice_index_or m.now.syms sym.0 [] }
 {
     if sym.0 < m.sym_count() {
@@ -218,19 +221,23 @@ impl Machine {
         Ok(())
     }
 
-    /// A turn of thread 0. After a stop nothing changes. After want of memory, what the machine holds
-    /// isn't said.
+    /// A turn of a thread. Only thread 0 was ever made. After a stop nothing changes. After want of memory,
+    /// what the machine holds isn't said.
     pub fn turn(
         &mut self,
         alloc: Global,
         m: &Module,
         functions: &[HBlocks],
         callees: &[Callee],
+        tid: Tid,
     ) -> Result<(), AllocError>
         requires known { callees.now ≡ callees_of m.now }
         requires room { length self.old.turns + 1 < 2 ^ 64 }
-        ensures { OnOk result (state_of self.new ≡ event m.now functions.now (state_of self.old) (Turn 0)) }
+        ensures { OnOk result (state_of self.new ≡ event m.now functions.now (state_of self.old) (Turn tid.0)) }
     {
+        if tid.0 != 0 {
+            return Ok(());
+        }
         if self.stop.is_some() {
             return Ok(());
         }
@@ -238,6 +245,26 @@ impl Machine {
             Thread::Absent => Ok(()),
             Thread::Running(frame) => self.advance(alloc, m, functions, callees, frame),
             Thread::Exiting(word) => self.exit(word),
+        }
+    }
+
+    /// An event of a schedule. Aborts do nothing, since no thread is in a transaction, and upsets aren't built.
+    pub fn happen(
+        &mut self,
+        alloc: Global,
+        m: &Module,
+        functions: &[HBlocks],
+        callees: &[Callee],
+        event: &Event<'_>,
+    ) -> Result<(), AllocError>
+        requires known { callees.now ≡ callees_of m.now }
+        requires room { length self.old.turns + 1 < 2 ^ 64 }
+        ensures { OnOk result (state_of self.new
+            ≡ run_from m.now functions.now (state_of self.old) (machine_events (shown event.now ∷ []))) }
+    {
+        match event {
+            Event::Turn(tid) => self.turn(alloc, m, functions, callees, *tid),
+            Event::Abort(_) | Event::Upset(_) => Ok(()),
         }
     }
 

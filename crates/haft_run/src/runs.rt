@@ -1,14 +1,18 @@
 //! A program, hardened and run.
-ghost use Rattle.std.specs.Prelude.{ℕ, ◌≡◌, List, IfOk};
+ghost use Rattle.std.specs.Prelude.{ℕ, ◌≡◌, ◌<◌, ◌^◌, List, length, IfOk};
+ghost use Rattle.sched_file.specs.Events.{events_of};
 ghost use Rattle.small_text.specs.SmallText.{SmallText};
 ghost use Rattle.haft_run.specs.Turns.{run_on, turns_of_main};
 ghost use Rattle.haft_run.specs.Meaning.{IsDefined, Means};
+ghost use Rattle.haft_run.specs.Built.{IsBuilt};
+ghost use Rattle.haft_run.specs.Schedule.{IsUpsetFree, machine_events};
 
 use crate::RunResult;
 use crate::hardening::harden;
 use crate::machine::Machine;
 use ir_action::callees_of;
-use ir_core::Module;
+use ir_core::{Module, Tid};
+use sched_file::Schedule;
 use std::alloc::{AllocError, Global};
 
 /// Hardens a module, and runs it over so many turns of thread 0.
@@ -25,7 +29,29 @@ pub fn run_small(alloc: Global, m: &Module, turns: u64) -> Result<RunResult, All
     let functions = hardened.items();
     let mut machine = Machine::new(alloc);
     for _turn in 0..turns {
-        machine.turn(alloc, m, functions, &callees)?;
+        machine.turn(alloc, m, functions, &callees, Tid(0))?;
+    }
+    Ok(machine.result())
+}
+
+/// Hardens a module, and runs it over the events of a schedule. Turns of threads that were never made do
+/// nothing, nor do aborts, and events after the stop change nothing.
+pub fn run(alloc: Global, m: &Module, s: &Schedule) -> Result<RunResult, AllocError>
+    requires built { IsBuilt m.now }
+    requires upset_free { IsUpsetFree (events_of s.now.lines) }
+    requires few { length (events_of s.now.lines) < 2 ^ 64 }
+    // The result is that of the hardened module's run on the events.
+    ensures exact { IfOk result (λ r. r ≡ run_on m.now (machine_events (events_of s.now.lines))) }
+    // A built module comes to no undefined step, so the result means what it says.
+    ensures meaning { IfOk result (λ r. Means m.now r) }
+{
+    let callees = callees_of(alloc, m)?;
+    let hardened = harden(alloc, m)?;
+    let functions = hardened.items();
+    let mut machine = Machine::new(alloc);
+    let mut cursor = s.cursor();
+    'events: while let Some(event) = cursor.next_event() {
+        machine.happen(alloc, m, functions, &callees, &event)?;
     }
     Ok(machine.result())
 }

@@ -2,7 +2,7 @@ use Rattle.std.proofs.Common.{length, ap, sym, ◌∙◌, arith}
 use Rattle.haft_run.specs.State.{state_of}
 use Rattle.haft_run.specs.Hard.{Machine, Turn, opening, run_from}
 use Rattle.haft_run.specs.Turns.{turns_of_main, result_of}
-use Rattle.haft_run.proofs.Defined.{small_is_defined}
+use Rattle.haft_run.proofs.SmallTexts.{small_is_defined}
 use Rattle.haft_run.proofs.Events.{length-event}
 use Rattle.haft_run.proofs.Repeats.{run_from-replicate, run_from-none}
 use Rattle.haft_run.proofs.Simulation.{run_on-means}
@@ -17,7 +17,7 @@ loop-turn-preserved c =
     let functions = c.items-functions.result.now in
     let before = state_of c.loop-turn.machine in (
       rw c.in_ok-turn.ensures (sym (run_from-replicate m functions before (Turn 0) c.args.turns c.loop-turn._turn c.loop-turn-test.true) ∙ c.loop-turn.invariant.0),
-      omega (arith, ap (λ (h : Machine). length h.turns) c.in_ok-turn.ensures, length-event m functions before 0, c.loop-turn.invariant.1),
+      omega (arith, ap (λ (h : Machine). length h.turns) c.in_ok-turn.ensures, length-event m functions before (Turn 0), c.loop-turn.invariant.1),
     )
 
 pub returns-clause-exact : goal.returns-clause-exact

@@ -1,0 +1,299 @@
+//! The modules that are built so far, told without memory.
+//!
+//! What is meant says `specs/Built.antt`; each function here computes a test of `specs/Testing.antt`. Whether an
+//! earlier line assigns a register is told by its number alone, as long as the results have the numbers behind the
+//! label's in order, which is how the names of a text are numbered. So the time is linear in the lines of a text;
+//! behind a result of another number the earlier lines are looked through.
+ghost use Rattle.std.specs.Prelude.{◌≡◌, ◌↔◌, ◌++◌, [], ◌∷◌, IsTrue};
+ghost use Rattle.haft_run.specs.Built.{name_of, is_register, assigns, is_assigned, IsBuilt};
+ghost use Rattle.haft_run.specs.Testing.{is_wide, is_narrow, is_i64, is_i32, is_void, is_operation, is_plain, is_operand, is_new, is_argument, is_alone, is_output, are_declares, is_declared, is_line, is_constant, is_return, are_insts, is_one_block, is_main, is_program, is_built, AreInOrder, next_behind};
+
+use crate::frame::destination_of;
+use crate::machine::sym_text;
+use ir_core::{BinOp, Block, Declare, Flags, Func, Inst, Loc, Module, Sym, Ty, Val, Width};
+
+/// Whether the type is `i64`.
+fn is_i64(ty: &Ty) -> bool
+    ensures { result ≡ is_i64 ty.now }
+{
+    matches!(ty, Ty::Int(Width::W64))
+}
+
+/// Whether the type is `i32`.
+fn is_i32(ty: &Ty) -> bool
+    ensures { result ≡ is_i32 ty.now }
+{
+    matches!(ty, Ty::Int(Width::W32))
+}
+
+/// Whether the type is `void`.
+fn is_void(ty: &Ty) -> bool
+    ensures { result ≡ is_void ty.now }
+{
+    matches!(ty, Ty::Void)
+}
+
+/// Whether the operation is `add`, `sub` or `mul`.
+fn is_operation(op: BinOp) -> bool
+    ensures { result ≡ is_operation op }
+{
+    matches!(op, BinOp::Add | BinOp::Sub | BinOp::Mul)
+}
+
+/// Whether the width is that of `i64`.
+fn is_wide(width: Width) -> bool
+    ensures { result ≡ is_wide width }
+{
+    matches!(width, Width::W64)
+}
+
+/// Whether no flag is set.
+fn is_plain(flags: Flags) -> bool
+    ensures { result ≡ is_plain flags }
+{
+    !flags.nuw && !flags.nsw && !flags.exact
+}
+
+/// Whether the line assigns the register.
+fn assigns(line: &Inst, at: Loc) -> bool
+    ensures { result ≡ assigns at.0 line.now }
+{
+    match destination_of(line) {
+        Some(register) => register.0 == at.0,
+        None => false,
+    }
+}
+
+/// Whether one of the lines assigns the register.
+fn is_assigned(lines: &[Inst], at: Loc) -> bool
+    ensures { result ≡ is_assigned lines.now at.0 }
+{
+    lines.iter().any(|line| assigns(line, at))
+}
+
+/// Whether the parameters are one `i64`.
+fn is_alone(params: &[Ty]) -> bool
+    ensures { result ≡ is_alone params.now }
+{
+    match params {
+        [ty] => is_i64(ty),
+        _ => false,
+    }
+}
+
+/// Whether the declare is `void @haft_out(i64)`.
+fn is_output(m: &Module, declare: &Declare) -> bool
+    ensures { result ≡ is_output m.now declare.now }
+{
+    sym_text(m, declare.sym) == b"haft_out".as_slice()
+        && is_void(&declare.ret)
+        && is_alone(declare.params.items())
+}
+
+/// Whether nothing is declared, or `haft_out` once.
+fn are_declares(m: &Module) -> bool
+    ensures { result ≡ are_declares m.now m.now.declares }
+{
+    match m.declares() {
+        [] => true,
+        [declare] => is_output(m, declare),
+        _ => false,
+    }
+}
+
+/// Whether the name is that of the one declare.
+fn is_declared(m: &Module, callee: Sym) -> bool
+    ensures { result ≡ is_declared m.now.declares callee }
+{
+    match m.declares() {
+        [declare] => callee.0 == declare.sym.0,
+        _ => false,
+    }
+}
+
+/// Whether the value is a constant.
+fn is_constant(value: &Option<Val>) -> bool
+    ensures { result ≡ is_constant value.now }
+{
+    matches!(value, Some(Val::Int(_)))
+}
+
+/// Whether the instruction returns a constant of type `i32`.
+fn is_return(inst: &Inst) -> bool
+    ensures { result ≡ is_return inst.now }
+{
+    match inst {
+        Inst::Ret { ty, val } => is_i32(ty) && is_constant(val),
+        _ => false,
+    }
+}
+
+/// What stands before a line: the block's label, and the lines so far.
+#[derive(Clone, Copy)]
+struct Before<'a> {
+    label: Loc,
+    lines: &'a [Inst],
+    /// Where the results so far have the numbers behind the label's in order: the number behind the last.
+    next: Option<u64>,
+}
+
+impl Before<'_> {
+    /// Whether a line so far assigns the register.
+    fn assigns(&self, at: Loc) -> bool
+        requires { AreInOrder self.now.label self.now.lines.now self.now.next }
+        ensures { result ≡ is_assigned self.now.lines.now at.0 }
+    {
+        match self.next {
+            Some(next) => self.label.0 < at.0 && u64::from(at.0) < next,
+            None => is_assigned(self.lines, at),
+        }
+    }
+
+    /// Whether the value is a constant, or a register that is assigned.
+    fn is_operand(&self, value: &Val) -> bool
+        requires { AreInOrder self.now.label self.now.lines.now self.now.next }
+        ensures { result ≡ is_operand self.now.lines.now value.now }
+    {
+        match value {
+            Val::Reg(register) => self.assigns(*register),
+            Val::Int(_) => true,
+            _ => false,
+        }
+    }
+
+    /// Whether neither the label nor a result so far has the name.
+    fn is_new(&self, register: Loc) -> bool
+        requires { AreInOrder self.now.label self.now.lines.now self.now.next }
+        ensures { result ≡ is_new self.now.label self.now.lines.now register }
+    {
+        register.0 != self.label.0 && !self.assigns(register)
+    }
+
+    /// Whether the arguments are one operand of type `i64`.
+    fn is_argument(&self, arguments: &[(Ty, Val)]) -> bool
+        requires { AreInOrder self.now.label self.now.lines.now self.now.next }
+        ensures { result ≡ is_argument self.now.lines.now arguments.now }
+    {
+        match arguments {
+            [(ty, value)] => is_i64(ty) && self.is_operand(value),
+            _ => false,
+        }
+    }
+
+    /// Whether the line is an operation or a call that is built.
+    fn is_line(&self, m: &Module, line: &Inst) -> bool
+        requires { AreInOrder self.now.label self.now.lines.now self.now.next }
+        ensures { result ≡ is_line m.now self.now.label self.now.lines.now line.now }
+    {
+        match line {
+            Inst::Bin {
+                dst,
+                op,
+                flags,
+                w,
+                a,
+                b,
+            } => {
+                self.is_new(*dst)
+                    && is_operation(*op)
+                    && is_plain(*flags)
+                    && is_wide(*w)
+                    && self.is_operand(a)
+                    && self.is_operand(b)
+            }
+            Inst::Call {
+                dst,
+                ret,
+                callee,
+                args,
+            } => {
+                dst.is_none()
+                    && is_void(ret)
+                    && is_declared(m, *callee)
+                    && self.is_argument(args.items())
+            }
+            _ => false,
+        }
+    }
+
+    /// The number behind the last result once this line stands behind the others, where that is still in order.
+    fn next_behind(&self, line: &Inst) -> Option<u64>
+        requires { AreInOrder self.now.label self.now.lines.now self.now.next }
+        ensures order { AreInOrder self.now.label (self.now.lines.now ++ line.now ∷ []) result }
+        ensures next { result ≡ next_behind line.now self.now.next }
+    {
+        let next = self.next?;
+        match destination_of(line) {
+            None => Some(next),
+            Some(dst) if u64::from(dst.0) == next => Some(next + 1),
+            Some(_) => None,
+        }
+    }
+}
+
+/// Whether the instructions are lines that are built, and then a return.
+fn are_insts(m: &Module, label: Loc, insts: &[Inst]) -> bool
+    ensures { result ≡ are_insts m.now label [] insts.now }
+{
+    let mut next = Some(u64::from(label.0) + 1);
+    'insts: for (index, inst) in insts.iter().enumerate() {
+        if index + 1 == insts.len() {
+            return is_return(inst);
+        }
+        let before = Before {
+            label,
+            lines: &insts[..index],
+            next,
+        };
+        if !before.is_line(m, inst) {
+            return false;
+        }
+        next = before.next_behind(inst);
+    }
+    false
+}
+
+/// Whether the blocks are one that is built.
+fn is_one_block(m: &Module, blocks: &[Block]) -> bool
+    ensures { result ≡ is_one_block m.now blocks.now }
+{
+    match blocks {
+        [block] => are_insts(m, block.label, block.insts.items()),
+        _ => false,
+    }
+}
+
+/// Whether the function is `main`, and built.
+fn is_main(m: &Module, function: &Func) -> bool
+    ensures { result ≡ is_main m.now function.now }
+{
+    sym_text(m, function.sym()) == b"main".as_slice()
+        && is_i32(function.ret())
+        && function.params().is_empty()
+        && is_one_block(m, function.blocks())
+}
+
+/// Whether the functions are `main` alone.
+fn is_program(m: &Module) -> bool
+    ensures { result ≡ is_program m.now m.now.funcs }
+{
+    match m.funcs() {
+        [function] => is_main(m, function),
+        _ => false,
+    }
+}
+
+/// Whether all parts of the module are built.
+#[tactic(auto, unfolding(crate::specs::Testing::is_built))]
+fn are_parts(m: &Module) -> bool
+    ensures { result ≡ is_built m.now }
+{
+    m.types().is_empty() && m.globals().is_empty() && are_declares(m) && is_program(m)
+}
+
+/// Whether the module is one that `run` takes: a `main` of one block, as `specs/Built.antt` says.
+pub fn built(m: &Module) -> bool
+    ensures { IsTrue result ↔ IsBuilt m.now }
+{
+    are_parts(m)
+}
