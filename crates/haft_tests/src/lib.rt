@@ -3,6 +3,8 @@
 #![tactic(auto)]
 
 #[cfg(test)]
+mod built_modules;
+#[cfg(test)]
 mod calls;
 #[cfg(test)]
 mod faults;

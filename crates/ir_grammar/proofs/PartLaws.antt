@@ -53,9 +53,6 @@ local_law = one_law local_of (record { kind = Local; text = []; at = 0 }) (recor
 pub symbol_law : IsRead Anywhere symbol
 symbol_law = one_law sym_of (record { kind = At; text = []; at = 0 }) (record { 0 = 1 }) refl
 
-digit_token : Tok
-digit_token = record { kind = Num; text = codes "0"; at = 0 }
-
 -- a word of a table
 pub table_law : {A : Type 0} (table : List ℕ → Option A) (word : List ℕ) (a : A) → table word ≡ Some a → IsRead Anywhere (one (in_table table))
 table_law table word a e = one_law (in_table table) (word_token word 0) a e

@@ -1,5 +1,5 @@
 -- Which tokens a part can't begin with.
-use Rattle.std.proofs.Common.{ℕ, ◌≡◌, Bool, true, false, List, [], ◌∷◌, length, Option, Some, None, Ok, refl, sym, ap, subst, ◌∙◌}
+use Rattle.std.proofs.Common.{ℕ, ◌≡◌, Bool, true, false, List, [], ◌∷◌, Option, Some, None, refl, sym, ap, subst, ◌∙◌}
 use Rattle.std.specs.Prelude.{is_some, is_none, ◌&&◌, if◌then◌else◌}
 use Rattle.std.proofs.lemmas.Bool.{false≢true}
 use Rattle.std.specs.Str.{bytes_eq}
@@ -7,7 +7,7 @@ use Rattle.std.specs.List.{list_all}
 use Rattle.std.proofs.lemmas.Slice.Eq.{bytes_eq-Decides}
 use Rattle.ir_core.specs.declared.text.TokKind.{TokKind}
 use Rattle.ir_core.specs.declared.text.TokKind.TheVariants.{Word, Local, At, Label, Num, Bytes, Str, Hash, Bang, Punct}
-use Rattle.ir_grammar.specs.Parts.{Tok, Read, Part, one, read_then, ◌>>=◌, star, read_row, then_row, heads, optional, read_optional, either, read_either}
+use Rattle.ir_grammar.specs.Parts.{Tok, Part, one, read_then, ◌>>=◌, heads, either, read_either}
 use Rattle.ir_grammar.specs.Tokens.{is_word, is_punct, is_bang, is_hash, is_local, known}
 use Rattle.ir_grammar.specs.Words.{entry, in_table}
 use Rattle.ir_grammar.proofs.Reading.{Refuses}
@@ -146,15 +146,6 @@ one_refuses pick t e more = rw e refl
 
 pub then_refuses : {A B : Type 0} (p : Part A) (k : A → Part B) (t : Tok) → Refuses p t → Refuses (p >>= k) t
 then_refuses p k t r more = ap (λ x. read_then x k) (r more)
-
--- a row that has no turn, and then a part that refuses
-pub star_refuses : {A B : Type 0} (f : Tok → Bool) (p : Part A) (k : List A → Part B) (t : Tok) → f t ≡ false → Refuses (k []) t → Refuses (star (heads f) p >>= k) t
-unfolding read_row
-star_refuses {A} {B} f p k t e r more = ap (λ b. read_then (elim b as (λ _. Read (List A)) [ true ↦ then_row (read_row (heads f) p (length more)) (p.reads (t ∷ more)) | false ↦ Ok ([], t ∷ more) ]) k) e ∙ r more
-
--- no token of an optional one, and then a part that refuses
-pub optional_refuses : {B : Type 0} (f : Tok → Bool) (k : Bool → Part B) (t : Tok) → f t ≡ false → Refuses (k false) t → Refuses (optional f >>= k) t
-optional_refuses f k t e r more = ap (λ b. read_then (read_optional b (t ∷ more)) k) e ∙ r more
 
 pub either_refuses : {A : Type 0} (f : Tok → Bool) (p q : Part A) (t : Tok) → f t ≡ false → Refuses q t → Refuses (either (heads f) p q) t
 either_refuses f p q t e r more = ap (λ b. read_either b p q (t ∷ more)) e ∙ r more

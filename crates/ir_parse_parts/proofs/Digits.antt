@@ -15,9 +15,6 @@ from_least n (d ∷ digits) = omega (arith, from_least (10 * n + (d - 48)) digit
 too_great : (m n : ℕ) → m ≤ n → nat_lt m (2 ^ 64) ≡ false → nat_lt n (2 ^ 64) ≡ false
 too_great m n le e = grind (arith, nat_tests)
 
-small_enough : (m n : ℕ) → m ≤ n → nat_lt n (2 ^ 64) ≡ true → nat_lt m (2 ^ 64) ≡ true
-small_enough m n le e = grind (arith, nat_tests)
-
 digits_below : (digits : List ℕ) (n : ℕ) → nat_lt n (2 ^ 64) ≡ true → digits_from n digits ≡ below_2_64 (from n digits)
 unfolding digits_from
 digits_below [] n e = ap (λ b. if b then Some n else None) (sym e)
