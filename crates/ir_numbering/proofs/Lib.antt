@@ -1,3 +1,4 @@
+mod Adding
 pub mod Lacking
 pub mod TakenNames
 pub mod Kept

@@ -1,10 +1,13 @@
 -- Name tables over a text: the tables once they have the names at places, and what becomes of places.
-use Rattle.std.specs.Prelude.{ℕ, ◌≡◌, ◌+◌, ◌<◌, List, [], ◌∷◌, length, take, fold}
-use Rattle.ir_core.specs.Module.{ModuleParts, FuncParts}
+use Rattle.std.specs.Prelude.{ℕ, ◌≡◌, ◌+◌, ◌<◌, List, [], ◌∷◌, ◌++◌, length, take, map, fold}
+use Rattle.std.specs.List.{flat_map}
+use Rattle.ir_core.specs.declared.types.Ty.{Ty}
+use Rattle.ir_core.specs.declared.types.TypeId.{TypeId}
+use Rattle.ir_core.specs.Module.{ModuleParts, FuncParts, empty_module}
 use Rattle.ir_core.specs.Names.{number_given, numbered}
 use Rattle.ir_core.specs.TokenLengths.{name_from}
-use Rattle.ir_numbering.specs.Renaming.{Renaming, renamed_func}
-use Rattle.ir_numbering.specs.Places.{places_of_func}
+use Rattle.ir_numbering.specs.Renaming.{Renaming, renamed_type_id, renamed_ty, renamed_global, renamed_declare, renamed_func}
+use Rattle.ir_numbering.specs.Places.{places_of_ty, places_of_global, places_of_declare, places_of_func}
 use Rattle.ir_numbering.specs.declared.places.Place.{Place}
 use Rattle.ir_numbering.specs.declared.places.Place.TheVariants.{Local, Struct, Global}
 
@@ -84,3 +87,25 @@ abbrev pub numbered_func : List ℕ → ModuleParts → FuncParts → FuncParts
 numbered_func text m f =
     let names = with_names [] (locals_at text (places_of_func f)) in
     record (renamed_func (renaming_of text m (record f { names = names })) f) { names = names }
+
+-- ---- whole modules
+
+abbrev pub places_of_named : TypeId × Ty → List Place
+places_of_named named = Struct named.0 ∷ [] ++ places_of_ty named.1
+
+-- The names of types and the `@` names of a module are numbered by first sight in this order.
+abbrev pub places_of_module : ModuleParts → List Place
+places_of_module m = flat_map places_of_named m.types ++ flat_map places_of_global m.globals ++ flat_map places_of_declare m.declares ++ flat_map places_of_func m.funcs
+
+abbrev pub renamed_named : Renaming → TypeId × Ty → TypeId × Ty
+renamed_named r named = (renamed_type_id r named.0, renamed_ty r named.1)
+
+-- the parts of a module, by the tables that number its names
+abbrev pub parts_by : List ℕ → ModuleParts → ModuleParts → ModuleParts
+parts_by text table m =
+    let r = renaming_outside text table in
+    record table { types = map (renamed_named r) m.types; globals = map (renamed_global r) m.globals; declares = map (renamed_declare r) m.declares; funcs = map (numbered_func text table) m.funcs }
+
+-- a module whose names are numbered by the places of its own tree
+abbrev pub numbered_module : List ℕ → ModuleParts → ModuleParts
+numbered_module text m = parts_by text (module_with text (places_of_module m) empty_module) m

@@ -19,6 +19,7 @@ mod places;
 mod tables;
 mod trees;
 mod values;
+mod whole;
 
 pub use laws::{numbers_stay, only_tables_change, places_are_numbered};
 pub use numbering::{add_names, numbered, numbered_func, numbered_outside, places_of};
@@ -26,3 +27,4 @@ pub use numbers::Numbers;
 pub use places::{Place, Places};
 pub use tables::{has_local_room, has_room, number_in_func, number_in_module};
 pub use trees::Numbered;
+pub use whole::numbered_module;

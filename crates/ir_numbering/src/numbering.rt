@@ -96,7 +96,7 @@ fn add_outer_names<T: Numbered>(
 }
 
 // The tree with the numbers of its names, none of which is a register's or a label's.
-fn renamed_outside<T: Numbered>(
+pub(crate) fn renamed_outside<T: Numbered>(
     tree: &T,
     text: &[u8],
     m: &Module,
