@@ -7,9 +7,12 @@
 #![tactic(auto)]
 
 mod body;
+mod cursor;
+mod errors;
 mod functions;
 mod globals;
 mod initialisers;
 mod lines;
 
+pub use errors::ParseError;
 pub use lines::{LineError, read_body_line, read_top_line};

@@ -1,0 +1,132 @@
+-- How the functions of this crate go through a text.
+use Rattle.std.specs.Prelude.{ℕ, ◌≡◌, ◌+◌, ◌≤◌, ◌<◌, Bool, true, false, List, [], ◌∷◌, ◌++◌, length, drop, ⊤}
+use Rattle.std.specs.List.{list_any}
+use Rattle.ir_core.specs.declared.text.Token.{Token}
+use Rattle.ir_core.specs.declared.types.Loc.{Loc}
+use Rattle.ir_core.specs.Module.{ModuleParts, FuncParts}
+use Rattle.ir_core.specs.Tokens.{HasTokens, HasBadColumn, AreWithin}
+use Rattle.ir_core.specs.Lines.{lines_of}
+use Rattle.ir_grammar.specs.declared.trees.TopLine.{TopLine}
+use Rattle.ir_grammar.specs.declared.trees.BodyLine.{BodyLine}
+use Rattle.ir_grammar.specs.Tokens.{tokens_of, is_punct, close_bracket}
+use Rattle.ir_parse_top.specs.Sheet.{Sheet, Outside, Inside, with_top, with_body}
+use Rattle.ir_parse_top.specs.Text.{Line, placed, all_moved, Fault, Run, Trips}
+use Rattle.ir_parse_top.specs.Text as texts
+use Rattle.ir_parse_top.specs.declared.errors.ParseError.{ParseError}
+use Rattle.ir_parse_top.specs.declared.errors.ParseError.TheVariants as errors
+
+-- a text, where the first line that is left begins, and that one's number
+pub record Left : Type 0 where
+  pub text : List ℕ
+  pub at : ℕ
+  pub number : ℕ
+
+-- the lines that are left
+abbrev pub lines_left : Left → List Line
+lines_left left = placed left.at (lines_of (drop left.at left.text))
+
+-- Texts are short, and there are no more lines than bytes.
+pub record IsKept (text : List ℕ) (at number : ℕ) : Type 0 where
+  pub short : length text ≤ 4194304
+  pub within : at ≤ length text + 1
+  pub counted : number ≤ at + 1
+
+-- the first line that was left has been taken
+pub record Takes (line : Line) (number : ℕ) (old new : Left) : Type 0 where
+  pub text : new.text ≡ old.text
+  pub lines : lines_left old ≡ line ∷ lines_left new
+  pub number_is : number ≡ old.number
+  pub next : new.number ≡ old.number + 1
+  pub here : line.at ≡ old.at
+  pub at : new.at ≡ old.at + length line.bytes + 1
+  pub within : line.at + length line.bytes ≤ length old.text
+
+-- the tokens of the line have joined these, told by their places in the text
+pub record AddsTokens (line : Line) (old new : List Token) : Type 0 where
+  pub own : List Token
+  pub is : HasTokens line.bytes own
+  pub within : AreWithin (length line.bytes) own
+  pub joined : new ≡ old ++ all_moved line.at own
+
+-- these lines have been taken
+pub record Goes (used : List Line) (old new : Left) : Type 0 where
+  pub text : new.text ≡ old.text
+  pub lines : lines_left old ≡ used ++ lines_left new
+  pub number : new.number ≡ old.number + length used
+
+-- Lines have been taken, and from any tree they lead past a line outside functions.
+pub record FindsTop (old new : Left) (line : TopLine) : Type 0 where
+  pub used : List Line
+  pub goes : Goes used old new
+  pub run : (tree : ModuleParts) → Run old.text (Outside tree) used (with_top old.text tree line)
+
+-- Lines have been taken, and inside any function they lead past a line of it.
+pub record FindsBody (old new : Left) (line : BodyLine) : Type 0 where
+  pub used : List Line
+  pub goes : Goes used old new
+  pub run : (tree : ModuleParts) (f : FuncParts) (entry : Loc) → Run old.text (Inside tree f entry []) used (with_body tree f entry line)
+
+-- Lines have been taken, and they lead past the end of the function.
+pub record FindsEnd (old new : Left) (f : FuncParts) (entry : Loc) (whole : FuncParts) : Type 0 where
+  pub used : List Line
+  pub goes : Goes used old new
+  pub run : (tree : ModuleParts) → Run old.text (Inside tree f entry []) used (Outside (record tree { funcs = tree.funcs ++ whole ∷ [] }))
+
+-- Lines have been taken, and they lead from one tree to the other.
+pub record FindsTree (old new : Left) (before after : ModuleParts) : Type 0 where
+  pub used : List Line
+  pub goes : Goes used old new
+  pub run : Run old.text (Outside before) used (Outside after)
+
+-- what an error says of a line; want of memory says nothing
+abbrev pub Told : (ℕ → Fault → Type 0) → ParseError → Type 0
+Told says (errors.Refused line word) = says line (texts.BadWord word)
+Told says (errors.BadByte line column) = says line (texts.BadByte column)
+Told says errors.NoMemory = ⊤
+
+-- the first line that can't be read of those that are left
+abbrev pub TripsFrom : Left → Sheet → ℕ → Fault → Type 0
+TripsFrom left sheet n fault = Trips left.text left.number sheet (lines_left left) n fault
+
+-- the same, whatever has been read outside functions
+abbrev pub TripsOutside : Left → ℕ → Fault → Type 0
+TripsOutside left n fault = (tree : ModuleParts) → TripsFrom left (Outside tree) n fault
+
+-- the same, whatever has been read in a function
+abbrev pub TripsInside : Left → ℕ → Fault → Type 0
+TripsInside left n fault = (tree : ModuleParts) (f : FuncParts) (entry : Loc) → TripsFrom left (Inside tree f entry []) n fault
+
+-- ---- a `switch` over several lines
+
+-- tokens of a line close the brackets of a `switch`
+abbrev pub closes : List ℕ → List Token → Bool
+closes text tokens = list_any (is_punct close_bracket) (tokens_of text tokens)
+
+-- Lines behind the tokens of an unclosed `switch` don't close it, and with theirs they are these tokens. The counts are how
+-- many there were before each of the lines, and behind the last one.
+unfoldable pub Grows : List ℕ → List Token → List Line → List Token → List ℕ → Type 0
+Grows text tokens [] all counts = (all ≡ tokens) × (counts ≡ length tokens ∷ [])
+Grows text tokens (line ∷ lines) all counts =
+    (own : List Token) × (others : List ℕ) × HasTokens line.bytes own × (closes text (all_moved line.at own) ≡ false) × (counts ≡ length tokens ∷ others) × Grows text (tokens ++ all_moved line.at own) lines all others
+
+-- why no more tokens of a `switch` were taken: its brackets were closed, a byte begins no token, or the text ended
+pub data Pause : Type 0 where
+  Closed : Pause
+  AtColumn : ℕ → Pause
+  AtEnd : Pause
+
+-- what stands behind the lines that belong to an unclosed `switch`; kept are its tokens so far, all are those that were taken
+abbrev pub Pauses : List ℕ → List Token → List Token → List Line → List Line → Pause → Type 0
+Pauses text kept all lines rest Closed = (line : Line) × (own : List Token) × (lines ≡ line ∷ rest) × HasTokens line.bytes own × (closes text (all_moved line.at own) ≡ true) × (all ≡ kept ++ all_moved line.at own)
+Pauses text kept all lines rest (AtColumn column) = (line : Line) × (lines ≡ line ∷ rest) × HasBadColumn line.bytes column × (all ≡ kept)
+Pauses text kept all lines rest AtEnd = (lines ≡ []) × (rest ≡ []) × (all ≡ kept)
+
+-- Lines of an unclosed `switch` have been taken, up to a pause.
+pub record Gathers (old new : Left) (tokens all : List Token) (counts : List ℕ) (pause : Pause) : Type 0 where
+  pub used : List Line
+  pub kept : List Token
+  pub behind : List Line
+  pub text : new.text ≡ old.text
+  pub lines : lines_left old ≡ used ++ behind
+  pub grows : Grows old.text tokens used kept counts
+  pub pauses : Pauses old.text kept all behind (lines_left new) pause
