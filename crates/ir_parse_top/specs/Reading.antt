@@ -1,11 +1,12 @@
 -- How the functions of this crate go through a text.
-use Rattle.std.specs.Prelude.{ℕ, ◌≡◌, ◌+◌, ◌≤◌, ◌<◌, Bool, true, false, List, [], ◌∷◌, ◌++◌, length, drop, ⊤}
-use Rattle.std.specs.List.{list_any}
+use Rattle.std.specs.Prelude.{ℕ, ◌≡◌, ◌⊎◌, ◌+◌, ◌≤◌, ◌<◌, Bool, true, false, List, [], ◌∷◌, ◌++◌, length, drop, ⊤}
+use Rattle.std.specs.List.{list_any, AllByRecursion}
 use Rattle.ir_core.specs.declared.text.Token.{Token}
 use Rattle.ir_core.specs.declared.types.Loc.{Loc}
 use Rattle.ir_core.specs.Module.{ModuleParts, FuncParts}
 use Rattle.ir_core.specs.Tokens.{HasTokens, HasBadColumn, AreWithin}
-use Rattle.ir_core.specs.Lines.{lines_of}
+use Rattle.ir_core.specs.Lines.{lines_of, IsDropped}
+use Rattle.ir_core.specs.declared.text.LinePlace.{LinePlace}
 use Rattle.ir_grammar.specs.declared.trees.TopLine.{TopLine}
 use Rattle.ir_grammar.specs.declared.trees.BodyLine.{BodyLine}
 use Rattle.ir_grammar.specs.Tokens.{tokens_of, is_punct, close_bracket}
@@ -53,6 +54,48 @@ pub record Goes (used : List Line) (old new : Left) : Type 0 where
   pub text : new.text ≡ old.text
   pub lines : lines_left old ≡ used ++ lines_left new
   pub number : new.number ≡ old.number + length used
+
+-- the line says nothing at this place
+abbrev pub IsPassed : LinePlace → Line → Type 0
+IsPassed place line = IsDropped place line.bytes ⊎ ((IsDropped place line.bytes → ⊥) × HasTokens line.bytes [])
+
+-- lines that say nothing at this place have been taken
+pub record Passes (place : LinePlace) (old now : Left) : Type 0 where
+  pub used : List Line
+  pub passed : AllByRecursion (IsPassed place) used
+  pub goes : Goes used old now
+
+-- Behind lines that say nothing at this place one with tokens has been taken, which has this number.
+pub record FindsText (place : LinePlace) (old new : Left) (number : ℕ) (tokens : List Token) : Type 0 where
+  pub used : List Line
+  pub line : Line
+  pub passed : AllByRecursion (IsPassed place) used
+  pub goes : Goes (used ++ line ∷ []) old new
+  pub number_is : number ≡ old.number + length used
+  pub own : List Token
+  pub kept : IsDropped place line.bytes → ⊥
+  pub is : HasTokens line.bytes own
+  pub some : own ≡ [] → ⊥
+  pub joined : tokens ≡ all_moved line.at own
+  pub within : AreWithin (length old.text) tokens
+  pub few : length tokens < new.at
+
+-- no line says anything at this place
+abbrev pub FindsNothing : LinePlace → Left → Type 0
+FindsNothing place old = AllByRecursion (IsPassed place) (lines_left old)
+
+-- Behind lines that say nothing at this place there is one with a bad byte, line n.
+pub record FindsBad (place : LinePlace) (old : Left) (n : ℕ) (fault : Fault) : Type 0 where
+  pub used : List Line
+  pub line : Line
+  pub rest : List Line
+  pub column : ℕ
+  pub passed : AllByRecursion (IsPassed place) used
+  pub lines : lines_left old ≡ used ++ line ∷ rest
+  pub kept : IsDropped place line.bytes → ⊥
+  pub bad : HasBadColumn line.bytes column
+  pub n_is : n ≡ old.number + length used
+  pub fault_is : fault ≡ texts.BadByte column
 
 -- Lines have been taken, and from any tree they lead past a line outside functions.
 pub record FindsTop (old new : Left) (line : TopLine) : Type 0 where

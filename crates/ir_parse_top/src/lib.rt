@@ -13,6 +13,7 @@ mod functions;
 mod globals;
 mod initialisers;
 mod lines;
+mod passing;
 
 pub use errors::ParseError;
 pub use lines::{LineError, read_body_line, read_top_line};
