@@ -1,2 +1,5 @@
 mod LinesLeft
 mod PassedLines
+mod Runs
+mod Telling
+mod Found

@@ -13,6 +13,7 @@ mod functions;
 mod globals;
 mod initialisers;
 mod lines;
+mod outside;
 mod passing;
 
 pub use errors::ParseError;
