@@ -3,3 +3,5 @@ mod PassedLines
 mod Runs
 mod Telling
 mod Found
+mod Gathering
+mod Unfit

@@ -23,9 +23,9 @@ rest_is text line rest at first = by_end first.whole
     by_end (inl e) = sym (sym (drop-drop (length line + 1) at text) ∙ ap (drop (length line + 1)) e ∙ drop-append-add line (10 ∷ rest) 1)
     by_end (inr e) = e.1 ∙ sym (sym (drop-drop (length line + 1) at text) ∙ ap (drop (length line + 1)) e.0 ∙ drop_all (length line + 1) line (omega arith))
 
--- the text from a place to its end, as a slice of it is written
-pub to_end : (text : List ℕ) (at : ℕ) → take (length text - at) (drop at text) ≡ drop at text
-to_end text at = take_all (length text - at) (drop at text) (let e : length (drop at text) ≡ length text - at = length-drop at text in omega (arith, e))
+-- a list from a place to its end, as a slice of it is written
+pub to_end : {X : Type 0} (xs : List X) (at : ℕ) → take (length xs - at) (drop at xs) ≡ drop at xs
+to_end xs at = take_all (length xs - at) (drop at xs) (let e : length (drop at xs) ≡ length xs - at = length-drop at xs in omega (arith, e))
 
 takes_first : (text : List ℕ) (at number : ℕ) (line rest : List ℕ) → at ≤ length text → lines_of (drop at text) ≡ line ∷ lines_of rest → IsFirstLine (drop at text) line rest → length line + length rest ≤ length (drop at text)
     → Takes (record { at = at; bytes = line }) number (record { text = text; at = at; number = number }) (record { text = text; at = at + (length line + 1); number = number + 1 })

@@ -1,6 +1,6 @@
 -- How the functions of this crate go through a text.
-use Rattle.std.specs.Prelude.{ℕ, ◌≡◌, ◌⊎◌, ◌+◌, ◌≤◌, ◌<◌, Bool, true, false, List, [], ◌∷◌, ◌++◌, length, drop, ⊤}
-use Rattle.std.specs.List.{list_any, AllByRecursion}
+use Rattle.std.specs.Prelude.{ℕ, ◌≡◌, ◌⊎◌, ◌+◌, ◌≤◌, ◌<◌, Bool, true, false, List, [], ◌∷◌, ◌++◌, length, drop, codes, nat_le, ⊤}
+use Rattle.std.specs.List.{list_any, prefix_len, AllByRecursion}
 use Rattle.ir_core.specs.declared.text.Token.{Token}
 use Rattle.ir_core.specs.declared.types.Loc.{Loc}
 use Rattle.ir_core.specs.Module.{ModuleParts, FuncParts}
@@ -9,10 +9,14 @@ use Rattle.ir_core.specs.Lines.{lines_of, IsDropped}
 use Rattle.ir_core.specs.declared.text.LinePlace.{LinePlace}
 use Rattle.ir_grammar.specs.declared.trees.TopLine.{TopLine}
 use Rattle.ir_grammar.specs.declared.trees.BodyLine.{BodyLine}
+use Rattle.ir_grammar.specs.Parts.{IsUnfit}
 use Rattle.ir_grammar.specs.Tokens.{tokens_of, is_punct, close_bracket}
+use Rattle.ir_grammar.specs.Top.{body_line}
 use Rattle.ir_parse_top.specs.Sheet.{Sheet, Outside, Inside, with_top, with_body}
-use Rattle.ir_parse_top.specs.Text.{Line, placed, all_moved, Fault, Run, Trips}
+use Rattle.ir_parse_top.specs.Text.{Line, placed, all_moved, Fault, word_at, Run, Trips}
 use Rattle.ir_parse_top.specs.Text as texts
+use Rattle.ir_parse_top.specs.declared.switches.Pause.{Pause}
+use Rattle.ir_parse_top.specs.declared.switches.Pause.TheVariants.{Closed, AtColumn, AtEnd}
 use Rattle.ir_parse_top.specs.declared.errors.ParseError.{ParseError}
 use Rattle.ir_parse_top.specs.declared.errors.ParseError.TheVariants as errors
 
@@ -127,6 +131,10 @@ Told says (errors.Refused line word) = says line (texts.BadWord word)
 Told says (errors.BadByte line column) = says line (texts.BadByte column)
 Told says errors.NoMemory = ⊤
 
+-- the line with this number, for this fault
+abbrev pub IsAt : ℕ → Fault → ℕ → Fault → Type 0
+IsAt number what n fault = (n ≡ number) × (fault ≡ what)
+
 -- the first line that can't be read of those that are left
 abbrev pub TripsFrom : Left → Sheet → ℕ → Fault → Type 0
 TripsFrom left sheet n fault = Trips left.text left.number sheet (lines_left left) n fault
@@ -152,24 +160,59 @@ Grows text tokens [] all counts = (all ≡ tokens) × (counts ≡ length tokens 
 Grows text tokens (line ∷ lines) all counts =
     (own : List Token) × (others : List ℕ) × HasTokens line.bytes own × (closes text (all_moved line.at own) ≡ false) × (counts ≡ length tokens ∷ others) × Grows text (tokens ++ all_moved line.at own) lines all others
 
--- why no more tokens of a `switch` were taken: its brackets were closed, a byte begins no token, or the text ended
-pub data Pause : Type 0 where
-  Closed : Pause
-  AtColumn : ℕ → Pause
-  AtEnd : Pause
-
 -- what stands behind the lines that belong to an unclosed `switch`; kept are its tokens so far, all are those that were taken
 abbrev pub Pauses : List ℕ → List Token → List Token → List Line → List Line → Pause → Type 0
 Pauses text kept all lines rest Closed = (line : Line) × (own : List Token) × (lines ≡ line ∷ rest) × HasTokens line.bytes own × (closes text (all_moved line.at own) ≡ true) × (all ≡ kept ++ all_moved line.at own)
 Pauses text kept all lines rest (AtColumn column) = (line : Line) × (lines ≡ line ∷ rest) × HasBadColumn line.bytes column × (all ≡ kept)
 Pauses text kept all lines rest AtEnd = (lines ≡ []) × (rest ≡ []) × (all ≡ kept)
 
+-- the tokens lie in the text, and are fewer than the bytes that have been read
+pub record AreSound (left : Left) (tokens : List Token) : Type 0 where
+  pub within : AreWithin (length left.text) tokens
+  pub few : length tokens < left.at
+
+-- A line has been taken that doesn't close the `switch`, and its tokens have joined these.
+pub record GrowsBy (old new : Left) (before after : List Token) : Type 0 where
+  pub line : Line
+  pub own : List Token
+  pub lines : lines_left old ≡ line ∷ lines_left new
+  pub number : new.number ≡ old.number + 1
+  pub ahead : old.at < new.at
+  pub is : HasTokens line.bytes own
+  pub unclosed : closes old.text (all_moved line.at own) ≡ false
+  pub joined : after ≡ before ++ all_moved line.at own
+  pub sound : AreSound new after
+
+-- The lines went on to a pause.
+pub record ComesTo (old new : Left) (before after : List Token) (pause : Pause) : Type 0 where
+  pub pauses : Pauses old.text before after (lines_left old) (lines_left new) pause
+  pub number : old.number ≤ new.number
+  pub within : AreWithin (length old.text) after
+
 -- Lines of an unclosed `switch` have been taken, up to a pause.
 pub record Gathers (old new : Left) (tokens all : List Token) (counts : List ℕ) (pause : Pause) : Type 0 where
   pub used : List Line
   pub kept : List Token
   pub behind : List Line
-  pub text : new.text ≡ old.text
   pub lines : lines_left old ≡ used ++ behind
   pub grows : Grows old.text tokens used kept counts
   pub pauses : Pauses old.text kept all behind (lines_left new) pause
+  pub number : old.number + length counts ≤ new.number + 1
+  pub within : AreWithin (length old.text) all
+
+-- what is wrong where tokens end at a pause
+abbrev pub fault_at : Pause → Fault
+fault_at Closed = texts.BadWord (codes "end")
+fault_at (AtColumn column) = texts.BadByte column
+fault_at AtEnd = texts.BadWord (codes "end")
+
+-- how many of the counts are no greater
+abbrev pub count_until : ℕ → List ℕ → ℕ
+count_until k counts = prefix_len (λ n. nat_le n k) counts
+
+-- The tokens of a `switch`, whose first line has this number, can't be read: one of them is unfit; or they fit so far and
+-- pause; or they stand for a line already, and its brackets aren't closed.
+pub data Blames (text : List ℕ) (number : ℕ) (tokens : List Token) (counts : List ℕ) (pause : Pause) (n : ℕ) (fault : Fault) : Type 0 where
+  Early : (k : ℕ) → k < length tokens → IsUnfit body_line.means (tokens_of text tokens) k → n ≡ number + count_until k counts → fault ≡ word_at text tokens k → Blames text number tokens counts pause n fault
+  Late : IsUnfit body_line.means (tokens_of text tokens) (length tokens) → n ≡ number + length counts → fault ≡ fault_at pause → Blames text number tokens counts pause n fault
+  Whole : (line : BodyLine) → body_line.means (tokens_of text tokens) line → (pause ≡ Closed → ⊥) → Blames text number tokens counts pause n fault

@@ -68,7 +68,7 @@ impl<'a> Lines<'a> {
     pub fn next(&mut self) -> Option<TextLine<'a>>
         ensures some { IfSome result (λ line.
             Takes (record { at = line.at; bytes = line.bytes.now }) line.number self.old self.new) }
-        ensures none { IfNone result (lines_left self.old ≡ []) }
+        ensures none { IfNone result ((lines_left self.old ≡ []) × (self.new ≡ self.old)) }
         ensures text { self.new.text ≡ self.old.text }
         ensures short { length self.old.text ≤ 4194304 }
         ensures within { self.new.at ≤ length self.old.text + 1 }

@@ -2,7 +2,7 @@
 ghost use Rattle.std.specs.Prelude.{◌≡◌, length};
 ghost use Rattle.ir_core.specs.Tokens.{AreWithin};
 ghost use Rattle.ir_parse_top.specs.Text.{word_at};
-ghost use Rattle.ir_parse_top.specs.Reading.{Told};
+ghost use Rattle.ir_parse_top.specs.Reading.{Told, IsAt};
 ghost use Rattle.ir_parse_top.specs.declared.errors.ParseError.TheVariants.{NoMemory};
 ghost use Rattle.ir_parse_top.specs.Text as texts;
 
@@ -39,7 +39,7 @@ impl<T: Drop> From<AllocFailed<T>> for ParseError {
 
 /// The refusal of a line for a word.
 pub(crate) fn refused(alloc: Global, line: u32, word: &[u8]) -> ParseError
-    ensures { Told (λ n fault. (n ≡ line) × (fault ≡ texts.BadWord word.now)) result }
+    ensures { Told (IsAt line (texts.BadWord word.now)) result }
 {
     match Name::new(alloc, word) {
         Ok(word) => ParseError::Refused { line, word },
@@ -67,7 +67,7 @@ pub(crate) fn refused_at(
     k: usize,
 ) -> ParseError
     requires within { AreWithin (length text.now) tokens.now }
-    ensures { Told (λ n fault. (n ≡ line) × (fault ≡ word_at text.now tokens.now k)) result }
+    ensures { Told (IsAt line (word_at text.now tokens.now k)) result }
 {
     refused(alloc, line, word_at(text, tokens, k))
 }

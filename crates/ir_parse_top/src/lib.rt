@@ -15,6 +15,7 @@ mod initialisers;
 mod lines;
 mod outside;
 mod passing;
+mod switches;
 
 pub use errors::ParseError;
 pub use lines::{LineError, read_body_line, read_top_line};

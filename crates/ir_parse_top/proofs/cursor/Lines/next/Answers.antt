@@ -1,10 +1,10 @@
-use Rattle.std.proofs.Common.{◌≡◌, ◌≤◌, ◌+◌, [], length, subst, arith}
+use Rattle.std.proofs.Common.{◌≡◌, ◌≤◌, ◌+◌, [], length, refl, subst, arith}
 use Rattle.ir_parse_top.specs.Reading.{Left, lines_left, Takes}
 use Rattle.ir_parse_top.proofs.LinesLeft.{none_left, to_end, takes}
 use Rattle.ir_parse_top.proofs.cursor.Lines.next.Goals as goal
 
 pub returns-then-self-clause-none : goal.returns-then-self-clause-none
-returns-then-self-clause-none c = subst (λ (l : Left). lines_left l ≡ []) c.self.view_is (none_left c.self.inside.text.now c.self.inside.at c.if-self.true)
+returns-then-self-clause-none c = (subst (λ (l : Left). lines_left l ≡ []) c.self.view_is (none_left c.self.inside.text.now c.self.inside.at c.if-self.true), refl)
 
 pub returns-clause-some : goal.returns-clause-some
 returns-clause-some c =
