@@ -16,7 +16,8 @@ mod values;
 mod words;
 
 pub use reader::Reader;
-pub use stops::Stop;
+pub use stops::{LineError, Stop, answered};
 pub use tokens::Tok;
+pub use types::ANY_DEPTH;
 pub use values::constant_head;
 pub use words::linkage_word;
