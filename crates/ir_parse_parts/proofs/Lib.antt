@@ -1,3 +1,4 @@
 pub mod Digits
 pub mod Exits
 pub mod Fronts
+pub mod WholeLines

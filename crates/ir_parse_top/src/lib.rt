@@ -12,4 +12,4 @@ mod globals;
 mod initialisers;
 mod lines;
 
-pub use lines::{LineError, read_body_line, read_top_line};
+pub use lines::{read_body_line, read_top_line};
