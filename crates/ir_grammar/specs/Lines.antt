@@ -3,7 +3,7 @@
 --
 -- Choices: one form for each instruction: first those with a result, then those without. In an instruction that a line
 -- stands for, a name is told by the place where it begins in the line. Memory orders, alignments, attributes,
--- words of linkage and metadata are read and dropped.
+-- words of linkage and metadata are read and dropped. How many brackets may stand open is said apart from the forms (`Fitting`).
 use Rattle.std.specs.Prelude.{ℕ, nat_eq, ◌||◌, not, Bool, true, false, List, [], ◌∷◌, codes, Option, Some, None, if◌then◌else◌}
 use Rattle.std.specs.List.{starts_with}
 use Rattle.ir_core.specs.declared.text.TokKind.TheVariants.{At}

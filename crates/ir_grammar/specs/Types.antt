@@ -109,8 +109,8 @@ unfoldable pub typ : ℕ → Part Ty
 typ zero = one flat_type
 typ (suc n) = one (type_head true) >>= type_rest (typ n)
 
--- How deep types and initialisers are nested: far deeper than the brackets of a line may be (`Fitting`), so that the forms
--- themselves have no limit on brackets.
+-- How deep types and initialisers may be nested: as deep as the longest line that is read has bytes, and far deeper than
+-- brackets may stand open (`Fitting`). So this is no limit, and the forms say nothing of how many brackets stand open.
 abbrev pub any_depth : ℕ
 any_depth = 4194304
 

@@ -9,7 +9,7 @@ use crate::{Reader, Stop, Tok, word_table};
 use ir_core::{Boxed, RmwOp, Seq, TokKind, Ty, TypeId, Tys, Width};
 use ir_grammar::{ResultHead, TypeHead};
 
-/// How deep types and initialisers are nested: far deeper than the brackets of a line may be.
+/// How deep types and initialisers may be nested: far deeper than brackets may stand open.
 pub const ANY_DEPTH: u32 = 4_194_304;
 
 fn width_word(word: &[u8]) -> Option<Width>
