@@ -3,7 +3,8 @@ use crate::shown::{address, inner_type, number, symbol, word};
 use ir_core::{GlobalVar, Init, Loc, Ty};
 use ir_grammar::{BodyLine, TopLine};
 use ir_lex::lex_line;
-use ir_parse_top::{LineError, read_body_line, read_top_line};
+use ir_parse_parts::LineError;
+use ir_parse_top::{read_body_line, read_top_line};
 use std::alloc::Global;
 use std::process::Abort;
 
@@ -87,6 +88,39 @@ const TOP_UNFIT: &[(&str, &str)] = &[
     ("define void @f(i8 %x ", "%y) {"),
     ("define void @f() ", "nounwind {"),
     ("define void @f() { ", "ret void"),
+];
+
+/// Initialisers inside so many brackets, in two halves as above: 64 brackets may stand open at once.
+const DEEP: &[(usize, &str, &str)] = &[
+    (64, "", "[ptr null"),
+    (64, "null, ptr ", "[i8 1]"),
+    (64, "null, ", "{ i8 } null"),
+    (64, "getelementptr ", "(i8, ptr @h, i64 0)"),
+    (64, "getelementptr inbounds ", "(i8, ptr @h, i64 0)"),
+    (
+        64,
+        "getelementptr nuw inbounds nusw inbounds ",
+        "([1 x i8], ptr @h, i64 0)",
+    ),
+    (64, "getelementptr inbounds ", "%x"),
+    (64, "getelementptr ", "]"),
+    (64, "getelementptr inbounds", ""),
+    (63, "getelementptr (", "[1 x i8], ptr @h, i64 0)"),
+    (
+        63,
+        "getelementptr (i8, ptr @h, i64 0), ptr [ptr getelementptr ",
+        "(i8, ptr @h, i64 0)",
+    ),
+];
+
+/// Initialisers inside so many brackets, closed again.
+const DEEP_WHOLE: &[(usize, &str)] = &[
+    (64, "null, ptr @h"),
+    (
+        63,
+        "[], ptr getelementptr inbounds (i8, ptr @h, i64 0), [1 x i8] c\"a\", ptr getelementptr (%T, ptr @h, i64 0)",
+    ),
+    (62, "getelementptr ([1 x i8], ptr @h, i64 0)"),
 ];
 
 /// Lines inside functions, and what they stand for.
@@ -228,6 +262,17 @@ fn told_body(rt: &impl Abort, alloc: Global, line: &str) -> String {
     out
 }
 
+/// The line of a global whose initialiser begins by so many brackets.
+fn deep(rt: &impl Abort, alloc: Global, brackets: usize, inner: &str) -> String {
+    let mut line = String::new(alloc);
+    word(rt, &mut line, "@g = global ptr ");
+    for _ in 0..brackets {
+        word(rt, &mut line, "[ptr ");
+    }
+    word(rt, &mut line, inner);
+    line
+}
+
 /// How many tokens the front has, as the unfit place.
 fn place_behind(rt: &impl Abort, alloc: Global, front: &str) -> String {
     let bytes = front.as_bytes();
@@ -259,5 +304,26 @@ fn lines_inside_functions_are_labels_ends_and_instructions(rt: HostRuntime) {
     for (line, want) in BODY {
         let found = told_body(&rt, alloc, line);
         assert!(rt; found.as_str() == *want, "{found} in {line:?}");
+    }
+}
+
+#[test]
+fn the_bracket_that_is_the_65th_to_stand_open_is_the_unfit_token(rt: HostRuntime) {
+    let alloc = rt.alloc();
+    for (brackets, front, back) in DEEP {
+        let brackets = *brackets;
+        let front = deep(&rt, alloc, brackets, front);
+        let line = format!(in alloc; "{front}{back}").expect(&rt, "no memory for a line");
+        let found = told_top(&rt, alloc, &line);
+        let want = place_behind(&rt, alloc, &front);
+        assert!(rt; found.as_str() == want.as_str(), "{found} in {line:?}");
+    }
+    for (brackets, inner) in DEEP_WHOLE {
+        let mut line = deep(&rt, alloc, *brackets, inner);
+        for _ in 0..*brackets {
+            word(&rt, &mut line, "]");
+        }
+        let found = told_top(&rt, alloc, &line);
+        assert!(rt; found.as_str().starts_with("global"), "{found} in {line:?}");
     }
 }

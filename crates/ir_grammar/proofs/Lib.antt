@@ -4,6 +4,7 @@ pub mod Refusals
 pub mod PartLaws
 pub mod TailLaws
 pub mod LineLaws
+pub mod Fronts
 pub mod Lines
 pub mod Turns
 pub mod Chains

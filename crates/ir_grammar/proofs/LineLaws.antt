@@ -28,24 +28,21 @@ use Rattle.ir_grammar.specs.Parts.{Tok, Part, gives, one, ◌>>=◌, star}
 use Rattle.ir_grammar.specs.Tokens.{word_of, is_word, is_punct, is_bang, is_hash, is_local, local_of, known, keyword, punct, local, comma, open_bracket, close_paren, close_bracket, close_brace, open_brace, open_paren, equals}
 use Rattle.ir_grammar.specs.Numbers.{decimal, count}
 use Rattle.ir_grammar.specs.Words.{entry, in_table, pred_word, rmw_word, binop_flags, cast_flags, gep_flags, icmp_flags, flag_of, flags, attribute_rows, rows_of, linkage_words, or_else, result_opcode_word, plain_opcode_word}
-use Rattle.ir_grammar.specs.Types.{width_word, memory_word, width, memory_type, width_text, scalar_text, type_head, typ, result_head, result_type}
+use Rattle.ir_grammar.specs.Types.{width_word, memory_word, width, memory_type, width_text, scalar_text, type_head, typ, any_depth, any_type, result_head, result_type}
 use Rattle.ir_grammar.specs.Values.{value_head, value_rest, value}
 use Rattle.ir_grammar.specs.Tails.{goes_on, attribute_word}
-use Rattle.ir_grammar.specs.Lines.{operand, pointer, comma_pointer, comma_operand, comma_same, label, comma_label, index, binary, comparison, selection, conversion, element, allocation, loading, updating, exchange, extraction, arm, phi, callee_of, callee, argument, call_operands, call, marked_call, storing, fencing, branch, arm_of_switch, switch_cases, switching, returning, line_with, line_without, result_line, instruction}
+use Rattle.ir_grammar.specs.Lines.{pointer, comma_pointer, comma_operand, comma_same, label, comma_label, index, binary, comparison, selection, conversion, element, allocation, loading, updating, exchange, extraction, arm, phi, callee_of, callee, argument, call_operands, call, marked_call, storing, fencing, branch, arm_of_switch, switch_cases, switching, returning, line_with, line_without, result_line, instruction}
 use Rattle.ir_grammar.proofs.Reading.{IsRead, Anywhere, AtEnd, Fails, Refuses, gives_law, one_law, then_law, then_other, either_head, optional_law, seen_law}
 use Rattle.ir_grammar.proofs.Rows.{star_heads}
 use Rattle.ir_grammar.proofs.Refusals.{word_token, at_word, at_punct, at_bang, at_hash, at_local, at_entry, not_known, one_refuses, then_refuses}
-use Rattle.ir_grammar.proofs.PartLaws.{keyword_law, punct_law, local_law, table_law, width_law, scalar_law, memory_type_law, rmw_type_law, integer_law, count_law, punct_refuses, listed_law, typ_law, typ_refuses, typ_at_paren, result_type_law, flags_law, value_law, order_law, order_of_law, attributes_law}
+use Rattle.ir_grammar.proofs.PartLaws.{keyword_law, punct_law, local_law, table_law, width_law, scalar_law, memory_type_law, rmw_type_law, integer_law, count_law, punct_refuses, listed_law, any_type_law, typ_refuses, typ_at_paren, result_type_law, flags_law, value_law, order_law, order_of_law, attributes_law}
 use Rattle.ir_grammar.proofs.TailLaws.{items_law, then_over, finished_law, finished_closes, finished_refuses, aligned_law}
 
 -- ---- operands
 
-operand_law : (ty : Ty) → IsRead Anywhere (operand ty)
-operand_law ty = value_law 63 ty
-
 pointer_law : IsRead Anywhere pointer
 unfolding pointer
-pointer_law = then_law (keyword_law (codes "ptr")) (λ _ front m. operand_law types.Ptr)
+pointer_law = then_law (keyword_law (codes "ptr")) (λ _ front m. value_law types.Ptr)
 
 comma_pointer_law : IsRead Anywhere comma_pointer
 unfolding comma_pointer
@@ -53,11 +50,11 @@ comma_pointer_law = then_law (punct_law comma) (λ _ front m. pointer_law)
 
 comma_operand_law : (ty : Ty) → IsRead Anywhere (comma_operand ty)
 unfolding comma_operand
-comma_operand_law ty = then_law (punct_law comma) (λ _ front m. operand_law ty)
+comma_operand_law ty = then_law (punct_law comma) (λ _ front m. value_law ty)
 
 comma_same_law : (ty : Ty) → IsRead Anywhere (comma_same ty)
 unfolding comma_same
-comma_same_law ty = then_law (punct_law comma) (λ _ front m. then_law (keyword_law (scalar_text ty)) (λ _ front m. operand_law ty))
+comma_same_law ty = then_law (punct_law comma) (λ _ front m. then_law (keyword_law (scalar_text ty)) (λ _ front m. value_law ty))
 
 label_law : IsRead Anywhere label
 unfolding label
@@ -67,8 +64,8 @@ comma_label_law : IsRead Anywhere comma_label
 unfolding comma_label
 comma_label_law = then_law (punct_law comma) (λ _ front m. label_law)
 
-index_rest_law : IsRead {A = Width × Val} Anywhere (width >>= λ w. operand (types.Int w) >>= λ v. gives (w, v))
-index_rest_law = then_law width_law (λ w front m. then_law (operand_law (types.Int w)) (λ v front m. gives_law (w, v)))
+index_rest_law : IsRead {A = Width × Val} Anywhere (width >>= λ w. value (types.Int w) >>= λ v. gives (w, v))
+index_rest_law = then_law width_law (λ w front m. then_law (value_law (types.Int w)) (λ v front m. gives_law (w, v)))
 
 pub index_law : IsRead Anywhere index
 unfolding index
@@ -93,7 +90,7 @@ typ_at_entry rows n some none t e = typ_refuses n t (at_entry (type_head true) r
 
 pub arm_law : (ty : Ty) → IsRead Anywhere (arm ty)
 unfolding arm
-arm_law ty = then_law (punct_law open_bracket) (λ _ front m. then_law (value_law 62 ty) (λ v front m. then_law (punct_law comma) (λ _ front m. then_law local_law (λ at front m. then_law (punct_law close_bracket) (λ _ front m. gives_law (v, at))))))
+arm_law ty = then_law (punct_law open_bracket) (λ _ front m. then_law (value_law ty) (λ v front m. then_law (punct_law comma) (λ _ front m. then_law local_law (λ at front m. then_law (punct_law close_bracket) (λ _ front m. gives_law (v, at))))))
 
 arms_law : (ty : Ty) → IsRead (Fails goes_on) (star goes_on (punct comma >>= λ _. arm ty))
 unfolding arm
@@ -103,7 +100,7 @@ module _ (dst : Loc) where
   binary_law : (op : BinOp) → IsRead AtEnd (binary dst op)
   unfolding binary
   binary_law op = after_flags (Binary op) _
-      (λ kept. then_law width_law (λ w front m. then_law (operand_law (types.Int w)) (λ a front m. then_law (comma_operand_law (types.Int w)) (λ b front m. finished_law _))))
+      (λ kept. then_law width_law (λ w front m. then_law (value_law (types.Int w)) (λ a front m. then_law (comma_operand_law (types.Int w)) (λ b front m. finished_law _))))
       (λ kept t e. then_refuses width _ t (one_refuses (in_table width_word) t (at_entry (in_table width_word) (binop_flags op) (no_width op) t e)))
     where
       no_width : (op : BinOp) (at : ℕ) → list_all (λ row. is_none (in_table width_word (word_token row.0 at))) (binop_flags op) ≡ true
@@ -124,18 +121,18 @@ module _ (dst : Loc) where
   comparison_law : IsRead AtEnd (comparison dst)
   unfolding comparison
   comparison_law = after_flags Icmp _
-      (λ kept. then_law (table_law pred_word (codes "eq") Eq refl) (λ pred front m. then_law scalar_law (λ ty front m. then_law (operand_law ty) (λ a front m. then_law (comma_operand_law ty) (λ b front m. finished_law _)))))
+      (λ kept. then_law (table_law pred_word (codes "eq") Eq refl) (λ pred front m. then_law scalar_law (λ ty front m. then_law (value_law ty) (λ a front m. then_law (comma_operand_law ty) (λ b front m. finished_law _)))))
       (λ kept t e. then_refuses (one (in_table pred_word)) _ t (one_refuses (in_table pred_word) t (at_entry (in_table pred_word) icmp_flags (λ at. refl) t e)))
 
   selection_law : IsRead AtEnd (selection dst)
   unfolding selection
-  selection_law = then_law (keyword_law (codes "i1")) (λ _ front m. then_law (operand_law (types.Int W1)) (λ cond front m. then_law (punct_law comma) (λ _ front m. then_law scalar_law (λ ty front m. then_law (operand_law ty) (λ a front m. then_law (comma_same_law ty) (λ b front m. finished_law _))))))
+  selection_law = then_law (keyword_law (codes "i1")) (λ _ front m. then_law (value_law (types.Int W1)) (λ cond front m. then_law (punct_law comma) (λ _ front m. then_law scalar_law (λ ty front m. then_law (value_law ty) (λ a front m. then_law (comma_same_law ty) (λ b front m. finished_law _))))))
 
   conversion_law : (op : CastOp) → IsRead AtEnd (conversion dst op)
   unfolding conversion
   conversion_law op = after_flags (Cast op) _
-      (λ kept. then_law (typ_law 64) (λ source front m. then_law (operand_law source) (λ a front m. then_law (keyword_law (codes "to")) (λ _ front m. then_law (typ_law 64) (λ target front m. finished_law _)))))
-      (λ kept t e. then_refuses (typ 64) _ t (typ_at_entry (cast_flags op) 64 (opening op) (closed op) t e))
+      (λ kept. then_law any_type_law (λ source front m. then_law (value_law source) (λ a front m. then_law (keyword_law (codes "to")) (λ _ front m. then_law any_type_law (λ target front m. finished_law _)))))
+      (λ kept t e. then_refuses any_type _ t (typ_at_entry (cast_flags op) any_depth (opening op) (closed op) t e))
     where
       opening : (op : CastOp) (at : ℕ) → list_all (λ row. is_none (type_head true (word_token row.0 at))) (cast_flags op) ≡ true
       opening Zext at = refl
@@ -154,12 +151,12 @@ module _ (dst : Loc) where
   element_law : IsRead AtEnd (element dst)
   unfolding element
   element_law = after_flags Gep _
-      (λ kept. then_law (typ_law 64) (λ base front m. then_law comma_pointer_law (λ ptr front m. then_law index_law (λ first front m. then_over (seen_law (λ others. first ∷ others) _ indices_law) (λ others. finished_law _) (λ others. finished_closes _)))))
-      (λ kept t e. then_refuses (typ 64) _ t (typ_at_entry gep_flags 64 (λ at. refl) (λ at. refl) t e))
+      (λ kept. then_law any_type_law (λ base front m. then_law comma_pointer_law (λ ptr front m. then_law index_law (λ first front m. then_over (seen_law (λ others. first ∷ others) _ indices_law) (λ others. finished_law _) (λ others. finished_closes _)))))
+      (λ kept t e. then_refuses any_type _ t (typ_at_entry gep_flags any_depth (λ at. refl) (λ at. refl) t e))
 
   allocation_law : IsRead AtEnd (allocation dst)
   unfolding allocation
-  allocation_law = then_law (typ_law 64) (λ ty front m. aligned_law _)
+  allocation_law = then_law any_type_law (λ ty front m. aligned_law _)
 
   loading_law : IsRead AtEnd (loading dst)
   unfolding loading
@@ -169,12 +166,12 @@ module _ (dst : Loc) where
 
   updating_law : IsRead AtEnd (updating dst)
   unfolding updating
-  updating_law = then_law (table_law rmw_word (codes "xchg") rmw.Xchg refl) (λ op front m. then_law pointer_law (λ ptr front m. then_law (punct_law comma) (λ _ front m. then_law (rmw_type_law op) (λ ty front m. then_law (operand_law ty) (λ v front m. then_law order_law (λ _ front m. aligned_law _))))))
+  updating_law = then_law (table_law rmw_word (codes "xchg") rmw.Xchg refl) (λ op front m. then_law pointer_law (λ ptr front m. then_law (punct_law comma) (λ _ front m. then_law (rmw_type_law op) (λ ty front m. then_law (value_law ty) (λ v front m. then_law order_law (λ _ front m. aligned_law _))))))
 
   exchange_law : IsRead AtEnd (exchange dst)
   unfolding exchange pointer
   exchange_law = optional_law (is_word (codes "weak")) _
-      (λ weak. then_law pointer_law (λ ptr front m. then_law (punct_law comma) (λ _ front m. then_law memory_type_law (λ ty front m. then_law (operand_law ty) (λ old front m. then_law (comma_same_law ty) (λ new front m. then_law order_law (λ _ front m. then_law order_law (λ _ front m. aligned_law _))))))))
+      (λ weak. then_law pointer_law (λ ptr front m. then_law (punct_law comma) (λ _ front m. then_law memory_type_law (λ ty front m. then_law (value_law ty) (λ old front m. then_law (comma_same_law ty) (λ new front m. then_law order_law (λ _ front m. then_law order_law (λ _ front m. aligned_law _))))))))
       (λ t e. then_refuses pointer _ t (then_refuses (keyword (codes "ptr")) _ t (one_refuses (λ t. known (is_word (codes "ptr") t)) t (at_word (λ t. known (is_word (codes "ptr") t)) (codes "weak") (λ at. refl) t e))))
 
   two_law : IsRead Anywhere (count 2)
@@ -183,7 +180,7 @@ module _ (dst : Loc) where
 
   extraction_law : IsRead AtEnd (extraction dst)
   unfolding extraction
-  extraction_law = then_law (punct_law open_brace) (λ _ front m. then_law (typ_law 63) (λ elem front m. then_law (punct_law comma) (λ _ front m. then_law (keyword_law (codes "i1")) (λ _ front m. then_law (punct_law close_brace) (λ _ front m. then_law local_law (λ pair front m. then_law (punct_law comma) (λ _ front m. then_law two_law (λ n front m. finished_law _))))))))
+  extraction_law = then_law (punct_law open_brace) (λ _ front m. then_law any_type_law (λ elem front m. then_law (punct_law comma) (λ _ front m. then_law (keyword_law (codes "i1")) (λ _ front m. then_law (punct_law close_brace) (λ _ front m. then_law local_law (λ pair front m. then_law (punct_law comma) (λ _ front m. then_law two_law (λ n front m. finished_law _))))))))
 
   phi_law : IsRead AtEnd (phi dst)
   unfolding phi
@@ -202,20 +199,20 @@ value_at_attribute ty at = elim ty as (λ ty. list_all (λ row. is_none (value_h
     by W32 = refl
     by W64 = refl
 
-value_refuses : (inner : ℕ) (ty : Ty) (t : Tok) → value_head ty t ≡ None → Refuses (value inner ty) t
+value_refuses : (ty : Ty) (t : Tok) → value_head ty t ≡ None → Refuses (value ty) t
 unfolding value
-value_refuses inner ty t e = then_refuses (one (value_head ty)) (value_rest inner) t (one_refuses (value_head ty) t e)
+value_refuses ty t e = then_refuses (one (value_head ty)) value_rest t (one_refuses (value_head ty) t e)
 
 pub argument_law : IsRead Anywhere argument
 unfolding argument
-argument_law = then_law (typ_law 63) (λ ty front m. then_other (λ t. is_some (in_table (attribute_word false) t)) (attributes_law false)
-    (λ _ front m. then_law (value_law 62 ty) (λ v front m. gives_law (ty, v)))
-    (λ _ front m t e. then_refuses (value 62 ty) _ t (value_refuses 62 ty t (at_entry (value_head ty) attribute_rows (value_at_attribute ty) t e))))
+argument_law = then_law any_type_law (λ ty front m. then_other (λ t. is_some (in_table (attribute_word false) t)) (attributes_law false)
+    (λ _ front m. then_law (value_law ty) (λ v front m. gives_law (ty, v)))
+    (λ _ front m t e. then_refuses (value ty) _ t (value_refuses ty t (at_entry (value_head ty) attribute_rows (value_at_attribute ty) t e))))
 
 -- a word of linkage or of attributes is none of a type
-pub result_refuses : (inner : ℕ) (t : Tok) → result_head t ≡ None → Refuses (result_type inner) t
+pub result_refuses : (t : Tok) → result_head t ≡ None → Refuses result_type t
 unfolding result_type
-result_refuses inner t e = then_refuses (one result_head) _ t (one_refuses result_head t e)
+result_refuses t e = then_refuses (one result_head) _ t (one_refuses result_head t e)
 
 either_table : {A : Type 0} (f g : List ℕ → Option A) (o : Option (List ℕ)) → is_some (option_and_then (λ word. or_else (f word) (g word)) o) ≡ true → (is_some (option_and_then f o) ≡ true) ⊎ (is_some (option_and_then g o) ≡ true)
 either_table f g None e = absurd cc
@@ -241,7 +238,7 @@ callee_law = one_law callee_of (record { kind = At; text = codes "@f"; at = 0 })
 
 argument_at_paren : (t : Tok) → is_punct close_paren t ≡ true → Refuses argument t
 unfolding argument
-argument_at_paren t e = then_refuses (typ 63) _ t (typ_at_paren 63 t e)
+argument_at_paren t e = then_refuses any_type _ t (typ_at_paren any_depth t e)
 
 call_operands_law : IsRead Anywhere call_operands
 unfolding call_operands
@@ -250,8 +247,8 @@ call_operands_law = then_law callee_law (λ sym front m. then_law (punct_law ope
 call_law : (dst : Option Loc) → IsRead AtEnd (call dst)
 unfolding call
 call_law dst = then_other (λ t. is_some (in_table (attribute_word true) t)) (attributes_law true)
-    (λ _ front m. then_law (result_type_law 63) (λ ret front m. then_law call_operands_law (λ x front m. optional_law is_hash _ (λ hash. finished_law _) (λ t e. finished_refuses _ t (hash_is_no_comma t e)))))
-    (λ _ front m t e. then_refuses (result_type 63) _ t (result_refuses 63 t (linkage_refused t e)))
+    (λ _ front m. then_law result_type_law (λ ret front m. then_law call_operands_law (λ x front m. optional_law is_hash _ (λ hash. finished_law _) (λ t e. finished_refuses _ t (hash_is_no_comma t e)))))
+    (λ _ front m t e. then_refuses result_type _ t (result_refuses t (linkage_refused t e)))
 
 marked_call_law : (dst : Option Loc) → IsRead AtEnd (marked_call dst)
 unfolding marked_call
@@ -262,7 +259,7 @@ marked_call_law dst = then_law (keyword_law (codes "call")) (λ _ front m. call_
 storing_law : IsRead AtEnd storing
 unfolding storing
 storing_law = optional_law (is_word (codes "atomic")) _
-    (λ atomic. then_law memory_type_law (λ ty front m. then_law (operand_law ty) (λ v front m. then_law comma_pointer_law (λ ptr front m. then_law (order_of_law atomic) (λ _ front m. aligned_law _)))))
+    (λ atomic. then_law memory_type_law (λ ty front m. then_law (value_law ty) (λ v front m. then_law comma_pointer_law (λ ptr front m. then_law (order_of_law atomic) (λ _ front m. aligned_law _)))))
     (λ t e. then_refuses memory_type _ t (one_refuses (in_table memory_word) t (at_word (in_table memory_word) (codes "atomic") (λ at. refl) t e)))
 
 fencing_law : IsRead AtEnd fencing
@@ -276,7 +273,7 @@ branch_law : IsRead AtEnd branch
 unfolding branch label
 branch_law = either_head (is_word (codes "label"))
     (then_law label_law (λ to front m. finished_law _))
-    (then_law (keyword_law (codes "i1")) (λ _ front m. then_law (operand_law (types.Int W1)) (λ cond front m. then_law comma_label_law (λ a front m. then_law comma_label_law (λ b front m. finished_law _)))))
+    (then_law (keyword_law (codes "i1")) (λ _ front m. then_law (value_law (types.Int W1)) (λ cond front m. then_law comma_label_law (λ a front m. then_law comma_label_law (λ b front m. finished_law _)))))
     (λ t e. then_refuses label _ t (then_refuses (keyword (codes "label")) _ t (keyword_refuses (codes "label") t e)))
     refl
     (λ t e. then_refuses (keyword (codes "i1")) _ t (one_refuses (λ t. known (is_word (codes "i1") t)) t (at_word (λ t. known (is_word (codes "i1") t)) (codes "label") (λ at. refl) t e)))
@@ -310,16 +307,16 @@ switch_cases_law w = then_law (punct_law open_bracket) (λ _ front m.
 
 switching_law : IsRead AtEnd switching
 unfolding switching
-switching_law = then_law width_law (λ w front m. then_law (operand_law (types.Int w)) (λ on front m. then_law comma_label_law (λ default front m. then_law (switch_cases_law w) (λ cases front m. finished_law _))))
+switching_law = then_law width_law (λ w front m. then_law (value_law (types.Int w)) (λ on front m. then_law comma_label_law (λ default front m. then_law (switch_cases_law w) (λ cases front m. finished_law _))))
 
 returning_law : IsRead AtEnd returning
 unfolding returning
 returning_law = either_head (is_word (codes "void"))
     (then_law (keyword_law (codes "void")) (λ _ front m. finished_law _))
-    (then_law (typ_law 64) (λ ty front m. then_law (operand_law ty) (λ v front m. finished_law _)))
+    (then_law any_type_law (λ ty front m. then_law (value_law ty) (λ v front m. finished_law _)))
     (λ t e. then_refuses (keyword (codes "void")) _ t (keyword_refuses (codes "void") t e))
     refl
-    (λ t e. then_refuses (typ 64) _ t (typ_refuses 64 t (at_word (type_head true) (codes "void") (λ at. refl) t e) (at_word (type_head false) (codes "void") (λ at. refl) t e)))
+    (λ t e. then_refuses any_type _ t (typ_refuses any_depth t (at_word (type_head true) (codes "void") (λ at. refl) t e) (at_word (type_head false) (codes "void") (λ at. refl) t e)))
 
 -- ---- all lines
 

@@ -26,7 +26,7 @@ use Rattle.ir_grammar.specs.Parts.{Tok, Part, gives, one, all_of, ◌>>=◌, sta
 use Rattle.ir_grammar.specs.Tokens.{word_of, is_word, is_punct, known, keyword, punct, bang, local, local_of, comma, open_paren, close_paren, close_bracket, close_brace}
 use Rattle.ir_grammar.specs.Numbers.{decimal, count, count_of}
 use Rattle.ir_grammar.specs.Words.{entry, in_table, gep_flags, flag_rows, flag_of, with_flag, no_flags, flags}
-use Rattle.ir_grammar.specs.Types.{width_word, scalar_word, memory_word, rmw_type_word, width, scalar, memory_type, rmw_type, type_head, listed, type_rest, flat, flat_type, typ, result_head, result_rest, result_type}
+use Rattle.ir_grammar.specs.Types.{width_word, scalar_word, memory_word, rmw_type_word, width, scalar, memory_type, rmw_type, type_head, listed, type_rest, flat, flat_type, typ, any_depth, any_type, result_head, result_rest, result_type}
 use Rattle.ir_grammar.specs.Values.{integer_of, integer, symbol, sym_of, constant_index, const_operands, const_gep, value_head, value_rest, value}
 use Rattle.ir_grammar.specs.Tails.{order, order_of, attribute_rest, attribute_word, attribute, attributes}
 use Rattle.ir_grammar.proofs.Reading.{IsRead, Anywhere, Fails, Refuses, gives_law, one_law, then_law, then_other, either_head, seen_law}
@@ -155,13 +155,16 @@ unfolding typ
 typ_law zero = one_law flat_type (word_token (codes "ptr") 0) types.Ptr refl
 typ_law (suc n) = then_law (one_law (type_head true) (word_token (codes "ptr") 0) heads.Ptr refl) (λ h front m. type_rest_law (typ n) (typ_law n) (typ_at_brace n) h)
 
-result_rest_law : (inner : ℕ) (h : ResultHead) → IsRead Anywhere (result_rest inner h)
-result_rest_law inner results.Void = gives_law types.Void
-result_rest_law inner (results.Some h) = type_rest_law (typ inner) (typ_law inner) (typ_at_brace inner) h
+pub any_type_law : IsRead Anywhere any_type
+any_type_law = typ_law any_depth
 
-pub result_type_law : (inner : ℕ) → IsRead Anywhere (result_type inner)
+result_rest_law : (h : ResultHead) → IsRead Anywhere (result_rest h)
+result_rest_law results.Void = gives_law types.Void
+result_rest_law (results.Some h) = type_rest_law any_type any_type_law (typ_at_brace any_depth) h
+
+pub result_type_law : IsRead Anywhere result_type
 unfolding result_type
-result_type_law inner = then_law (one_law result_head (word_token (codes "void") 0) results.Void refl) (λ h front m. result_rest_law inner h)
+result_type_law = then_law (one_law result_head (word_token (codes "void") 0) results.Void refl) (λ h front m. result_rest_law h)
 
 -- ---- tokens that a test knows, any number of them
 
@@ -204,23 +207,23 @@ const_operands_law =
     (λ all front m. then_law (punct_law close_paren) (λ _ front m. gives_law (sym, all)))
     (λ all front m t e. closes close_paren _ (λ at. refl) t e))))))
 
-pub const_gep_law : (inner : ℕ) → IsRead Anywhere (const_gep inner)
+pub const_gep_law : IsRead Anywhere const_gep
 unfolding const_gep
-const_gep_law inner =
+const_gep_law =
     then_other (λ t. is_some (flag_of Gep t)) (flags_law Gep)
-    (λ kept front m. then_law (punct_law open_paren) (λ _ front m. then_law (typ_law inner) (λ base front m. then_law const_operands_law (λ x front m. gives_law _))))
+    (λ kept front m. then_law (punct_law open_paren) (λ _ front m. then_law any_type_law (λ base front m. then_law const_operands_law (λ x front m. gives_law _))))
     (λ kept front m t e. then_refuses (punct open_paren) _ t (one_refuses (λ t. known (is_punct open_paren t)) t (flag_is_no_punct gep_flags open_paren t e)))
 
-value_rest_law : (inner : ℕ) (h : ValueHead) → IsRead Anywhere (value_rest inner h)
-value_rest_law inner (values.Reg loc) = gives_law _
-value_rest_law inner (values.Int n) = gives_law _
-value_rest_law inner values.Null = gives_law _
-value_rest_law inner (values.Global sym) = gives_law _
-value_rest_law inner values.Gep = then_law (const_gep_law inner) (λ gep front m. gives_law _)
+value_rest_law : (h : ValueHead) → IsRead Anywhere (value_rest h)
+value_rest_law (values.Reg loc) = gives_law _
+value_rest_law (values.Int n) = gives_law _
+value_rest_law values.Null = gives_law _
+value_rest_law (values.Global sym) = gives_law _
+value_rest_law values.Gep = then_law const_gep_law (λ gep front m. gives_law _)
 
-pub value_law : (inner : ℕ) (ty : Ty) → IsRead Anywhere (value inner ty)
+pub value_law : (ty : Ty) → IsRead Anywhere (value ty)
 unfolding value
-value_law inner ty = then_law (one_law (value_head ty) (record { kind = Local; text = []; at = 0 }) (values.Reg (record { 0 = 1 })) refl) (λ h front m. value_rest_law inner h)
+value_law ty = then_law (one_law (value_head ty) (record { kind = Local; text = []; at = 0 }) (values.Reg (record { 0 = 1 })) refl) (λ h front m. value_rest_law h)
 
 -- ---- orders and attributes
 

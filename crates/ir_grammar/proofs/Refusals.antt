@@ -20,7 +20,7 @@ word_token text at = record { kind = Word; text = text; at = at }
 abbrev pub punct_token : ℕ → ℕ → Tok
 punct_token byte at = record { kind = Punct; text = byte ∷ []; at = at }
 
-named_word : (kind : TokKind) (text word : List ℕ) (at : ℕ) → is_word word (record { kind = kind; text = text; at = at }) ≡ true → ◌≡◌ {A = Tok} (record { kind = kind; text = text; at = at }) (word_token word at)
+pub named_word : (kind : TokKind) (text word : List ℕ) (at : ℕ) → is_word word (record { kind = kind; text = text; at = at }) ≡ true → ◌≡◌ {A = Tok} (record { kind = kind; text = text; at = at }) (word_token word at)
 named_word Word text word at e = ap (λ x. word_token x at) ((bytes_eq-Decides text word).0 e)
 named_word Local text word at e = absurd cc
 named_word At text word at e = absurd cc

@@ -18,7 +18,7 @@ use Rattle.ir_grammar.specs.declared.trees.BodyLine.TheVariants as bodies
 use Rattle.ir_grammar.specs.Parts.{Tok, Part, gives, one, read_then, ◌>>=◌, read_row, then_chain, read_chain, chain, star, read_seen, seen, heads as starts}
 use Rattle.ir_grammar.specs.Tokens.{is_punct, is_local, local_of, known, punct, local, equals, comma, open_paren, close_paren, close_bracket, open_brace, close_brace}
 use Rattle.ir_grammar.specs.Words.{in_table, rows_of, linkage_words, attribute_rows}
-use Rattle.ir_grammar.specs.Types.{typ, result_type, type_head}
+use Rattle.ir_grammar.specs.Types.{typ, any_depth, any_type, result_type, type_head}
 use Rattle.ir_grammar.specs.Values.{symbol, sym_of}
 use Rattle.ir_grammar.specs.Tails.{attribute_word, attributes}
 use Rattle.ir_grammar.specs.Words.{plain_opcode_word}
@@ -28,7 +28,7 @@ use Rattle.ir_grammar.proofs.Reading.{IsRead, Anywhere, AtEnd, Fails, Refuses, g
 use Rattle.ir_grammar.proofs.Rows.{star_heads}
 use Rattle.ir_grammar.proofs.Chains.{chain_law, Links, links_of}
 use Rattle.ir_grammar.proofs.Refusals.{word_token, punct_token, at_punct, at_local, at_entry, unknown, one_refuses, then_refuses, either_refuses}
-use Rattle.ir_grammar.proofs.PartLaws.{keyword_law, punct_law, bang_law, local_law, symbol_law, table_law, punct_refuses, listed_law, typ_law, typ_refuses, typ_at_brace, typ_at_paren, result_type_law, const_gep_law, attributes_law}
+use Rattle.ir_grammar.proofs.PartLaws.{keyword_law, punct_law, bang_law, local_law, symbol_law, table_law, punct_refuses, listed_law, any_type_law, typ_refuses, typ_at_brace, typ_at_paren, result_type_law, const_gep_law, attributes_law}
 use Rattle.ir_grammar.proofs.TailLaws.{aligned_law}
 use Rattle.ir_grammar.proofs.Turns.{Turns, turns_of, one_turns}
 use Rattle.ir_grammar.proofs.LineLaws.{instruction_law, no_local, result_refuses, linkage_refused}
@@ -37,34 +37,34 @@ use Rattle.ir_grammar.proofs.LineLaws.{instruction_law, no_local, result_refuses
 
 type_line_law : IsRead AtEnd type_line
 unfolding type_line
-type_line_law = then_law local_law (λ name front m. then_law (punct_law equals) (λ _ front m. then_law (keyword_law (codes "type")) (λ _ front m. then_law (punct_law open_brace) (λ _ front m. then_law (listed_law close_brace (typ_law 63) (λ at. refl) (typ_at_brace 63)) (λ parts front m. ends_law _)))))
+type_line_law = then_law local_law (λ name front m. then_law (punct_law equals) (λ _ front m. then_law (keyword_law (codes "type")) (λ _ front m. then_law (punct_law open_brace) (λ _ front m. then_law (listed_law close_brace any_type_law (λ at. refl) (typ_at_brace any_depth)) (λ parts front m. ends_law _)))))
 
 -- ---- initialisers
 
 abbrev zero_token : Tok
 zero_token = word_token (codes "zeroinitializer") 0
 
-typ_at_bracket : (n : ℕ) (t : Tok) → is_punct close_bracket t ≡ true → Refuses (typ n) t
-typ_at_bracket n t e = typ_refuses n t (at_punct (type_head true) close_bracket (λ at. refl) t e) (at_punct (type_head false) close_bracket (λ at. refl) t e)
+type_at_bracket : (t : Tok) → is_punct close_bracket t ≡ true → Refuses any_type t
+type_at_bracket t e = typ_refuses any_depth t (at_punct (type_head true) close_bracket (λ at. refl) t e) (at_punct (type_head false) close_bracket (λ at. refl) t e)
 
-module _ (n : ℕ) (inner : Ty → Part Init) (law : (ty : Ty) → IsRead Anywhere (inner ty)) where
-  pub typed_law : IsRead Anywhere (typed_init (typ n) inner)
-  typed_law = then_law (typ_law n) (λ ty front m. then_law (law ty) (λ i front m. gives_law (ty, i)))
+module _ (inner : Ty → Part Init) (law : (ty : Ty) → IsRead Anywhere (inner ty)) where
+  pub typed_law : IsRead Anywhere (typed_init inner)
+  typed_law = then_law any_type_law (λ ty front m. then_law (law ty) (λ i front m. gives_law (ty, i)))
 
-  init_rest_law : (text : List ℕ) (h : InitHead) → IsRead Anywhere (init_rest n inner text h)
+  init_rest_law : (text : List ℕ) (h : InitHead) → IsRead Anywhere (init_rest inner text h)
   init_rest_law text heads.Zero = gives_law _
   init_rest_law text (heads.Int k) = gives_law _
   init_rest_law text heads.Null = gives_law _
   init_rest_law text (heads.Addr sym) = gives_law _
   init_rest_law text heads.Bytes = gives_law _
-  init_rest_law text heads.Gep = then_law (const_gep_law n) (λ gep front m. gives_law _)
-  init_rest_law text heads.Array = then_law (listed_law close_bracket typed_law (λ at. refl) (λ t e. then_refuses (typ n) _ t (typ_at_bracket n t e))) (λ parts front m. gives_law _)
-  init_rest_law text heads.Struct = then_law (listed_law close_brace typed_law (λ at. refl) (λ t e. then_refuses (typ n) _ t (typ_at_brace n t e))) (λ parts front m. gives_law _)
+  init_rest_law text heads.Gep = then_law const_gep_law (λ gep front m. gives_law _)
+  init_rest_law text heads.Array = then_law (listed_law close_bracket typed_law (λ at. refl) (λ t e. then_refuses any_type _ t (type_at_bracket t e))) (λ parts front m. gives_law _)
+  init_rest_law text heads.Struct = then_law (listed_law close_brace typed_law (λ at. refl) (λ t e. then_refuses any_type _ t (typ_at_brace any_depth t e))) (λ parts front m. gives_law _)
 
 pub init_law : (n : ℕ) (ty : Ty) → IsRead Anywhere (init n ty)
 unfolding init
 init_law zero ty = one_law (flat_init ty) zero_token inits.Zero refl
-init_law (suc n) ty = then_law (one_law (init_first ty) zero_token (heads.Zero, codes "zeroinitializer") refl) (λ x front m. init_rest_law n (init n) (init_law n) x.1 x.0)
+init_law (suc n) ty = then_law (one_law (init_first ty) zero_token (heads.Zero, codes "zeroinitializer") refl) (λ x front m. init_rest_law (init n) (init_law n) x.1 x.0)
 
 -- ---- globals
 
@@ -79,7 +79,7 @@ linkage_turns = one_turns (in_table linkage_word)
 global_line_law : IsRead AtEnd global_line
 unfolding global_line
 global_line_law = then_law symbol_law (λ sym front m. then_law (punct_law equals) (λ _ front m. then_other (λ t. is_some (in_table linkage_word t)) linkage_law
-    (λ _ front m. then_law (table_law global_word (codes "global") true refl) (λ _ front m. then_law (typ_law 64) (λ ty front m. then_law (init_law 64 ty) (λ i front m. aligned_law _))))
+    (λ _ front m. then_law (table_law global_word (codes "global") true refl) (λ _ front m. then_law any_type_law (λ ty front m. then_law (init_law any_depth ty) (λ i front m. aligned_law _))))
     (λ _ front m t e. then_refuses (one (in_table global_word)) _ t (one_refuses (in_table global_word) t (at_entry (in_table global_word) (rows_of Whole linkage_words) (λ at. refl) t e)))))
 
 -- ---- functions
@@ -101,7 +101,7 @@ behind_turns = turns_of (starts (λ t. is_some (tail_head t))) (then_law (one_la
 
 declared_param_law : IsRead Anywhere declared_param
 unfolding declared_param
-declared_param_law = then_law (typ_law 63) (λ ty front m. then_other (λ t. is_some (in_table (attribute_word false) t)) (attributes_law false)
+declared_param_law = then_law any_type_law (λ ty front m. then_other (λ t. is_some (in_table (attribute_word false) t)) (attributes_law false)
     (λ _ front m. then_law separator_law (λ more front m. gives_law (ty, more)))
     (λ _ front m t e. then_refuses (one separator) _ t (one_refuses separator t (at_entry separator attribute_rows (λ at. refl) t e))))
 
@@ -128,7 +128,7 @@ word_no_local t e = by (is_local t) refl
 
 defined_param_law : IsRead Anywhere defined_param
 unfolding defined_param
-defined_param_law = then_law (typ_law 63) (λ ty front m. then_other (λ t. is_some (in_table (attribute_word false) t)) (attributes_law false)
+defined_param_law = then_law any_type_law (λ ty front m. then_other (λ t. is_some (in_table (attribute_word false) t)) (attributes_law false)
     (λ _ front m. then_law param_name_law (λ x front m. gives_law ((ty, x.0), x.1)))
     (λ _ front m t e. then_refuses param_name _ t (param_name_refuses t (word_no_local t e) (at_entry separator attribute_rows (λ at. refl) t e))))
 
@@ -160,27 +160,27 @@ typ_ptr (suc n) rest = refl
 
 declared_param_empty : declared_param.reads [] ≡ Err 0
 unfolding declared_param
-declared_param_empty = ap (λ r. read_then r (λ ty. attributes false >>= λ _. one separator >>= λ more. gives (ty, more))) (typ_empty 63)
+declared_param_empty = ap (λ r. read_then r (λ ty. attributes false >>= λ _. one separator >>= λ more. gives (ty, more))) (typ_empty any_depth)
 
 defined_param_empty : defined_param.reads [] ≡ Err 0
 unfolding defined_param
-defined_param_empty = ap (λ r. read_then r (λ ty. attributes false >>= λ _. param_name >>= λ x. gives ((ty, x.0), x.1))) (typ_empty 63)
+defined_param_empty = ap (λ r. read_then r (λ ty. attributes false >>= λ _. param_name >>= λ x. gives ((ty, x.0), x.1))) (typ_empty any_depth)
 
 last_declared : declared_param.reads last_param ≡ Ok ((types.Ptr, false), [])
 unfolding declared_param attributes read_row
-last_declared = ap (λ r. read_then r (λ ty. attributes false >>= λ _. one separator >>= λ more. gives (ty, more))) (typ_ptr 63 (punct_token close_paren 4 ∷ []))
+last_declared = ap (λ r. read_then r (λ ty. attributes false >>= λ _. one separator >>= λ more. gives (ty, more))) (typ_ptr any_depth (punct_token close_paren 4 ∷ []))
 
 last_defined : defined_param.reads last_param ≡ Ok (((types.Ptr, None), false), [])
 unfolding defined_param param_name attributes read_row
-last_defined = ap (λ r. read_then r (λ ty. attributes false >>= λ _. param_name >>= λ x. gives ((ty, x.0), x.1))) (typ_ptr 63 (punct_token close_paren 4 ∷ []))
+last_defined = ap (λ r. read_then r (λ ty. attributes false >>= λ _. param_name >>= λ x. gives ((ty, x.0), x.1))) (typ_ptr any_depth (punct_token close_paren 4 ∷ []))
 
 declared_at_paren : (t : Tok) → is_punct close_paren t ≡ true → Refuses declared_param t
 unfolding declared_param
-declared_at_paren t e = then_refuses (typ 63) _ t (typ_at_paren 63 t e)
+declared_at_paren t e = then_refuses any_type _ t (typ_at_paren any_depth t e)
 
 defined_at_paren : (t : Tok) → is_punct close_paren t ≡ true → Refuses defined_param t
 unfolding defined_param
-defined_at_paren t e = then_refuses (typ 63) _ t (typ_at_paren 63 t e)
+defined_at_paren t e = then_refuses any_type _ t (typ_at_paren any_depth t e)
 
 declared_params_law : IsRead Anywhere (params_of declared_param)
 declared_params_law = params_law declared_param declared_param_law declared_param_empty declared_at_paren last_param types.Ptr last_declared
@@ -213,18 +213,18 @@ brace_is_no_tail t e = by t.kind e
 declare_line_law : IsRead AtEnd declare_line
 unfolding declare_line
 declare_line_law = then_other (λ t. is_some (in_table (attribute_word true) t)) (attributes_law true)
-    (λ _ front m. then_law (result_type_law 63) (λ ret front m. then_law symbol_law (λ sym front m. then_law declared_params_law (λ params front m.
+    (λ _ front m. then_law result_type_law (λ ret front m. then_law symbol_law (λ sym front m. then_law declared_params_law (λ params front m.
     then_other (λ t. is_some (tail_head t)) behind_params_law (λ _ front m. ends_law _) (λ _ front m t e more. refl)))))
-    (λ _ front m t e. then_refuses (result_type 63) _ t (result_refuses 63 t (linkage_refused t e)))
+    (λ _ front m t e. then_refuses result_type _ t (result_refuses t (linkage_refused t e)))
 
 define_line_law : IsRead AtEnd define_line
 unfolding define_line
 define_line_law = then_other (λ t. is_some (in_table (attribute_word true) t)) (attributes_law true)
-    (λ _ front m. then_law (result_type_law 63) (λ ret front m. then_law symbol_law (λ sym front m. then_law defined_params_law (λ params front m.
+    (λ _ front m. then_law result_type_law (λ ret front m. then_law symbol_law (λ sym front m. then_law defined_params_law (λ params front m.
     then_other (λ t. is_some (tail_head t)) behind_params_law
     (λ _ front m. then_law (punct_law open_brace) (λ _ front m. ends_law _))
     (λ _ front m t e. then_refuses (punct open_brace) _ t (one_refuses (λ t. known (is_punct open_brace t)) t (brace_is_no_tail t e)))))))
-    (λ _ front m t e. then_refuses (result_type 63) _ t (result_refuses 63 t (linkage_refused t e)))
+    (λ _ front m t e. then_refuses result_type _ t (result_refuses t (linkage_refused t e)))
 
 -- ---- all lines
 

@@ -6,4 +6,5 @@ pub mod Types
 pub mod Values
 pub mod Tails
 pub mod Lines
+pub mod Fitting
 pub mod Top

@@ -3,7 +3,7 @@
 --
 -- Choices: one form for each instruction: first those with a result, then those without. In an instruction that a line
 -- stands for, a name is told by the place where it begins in the line. Memory orders, alignments, attributes,
--- words of linkage and metadata are read and dropped. At most 64 brackets stand open at once.
+-- words of linkage and metadata are read and dropped. How many brackets may stand open is said apart from the forms (`Fitting`).
 use Rattle.std.specs.Prelude.{ℕ, nat_eq, ◌||◌, not, Bool, true, false, List, [], ◌∷◌, codes, Option, Some, None, if◌then◌else◌}
 use Rattle.std.specs.List.{starts_with}
 use Rattle.ir_core.specs.declared.text.TokKind.TheVariants.{At}
@@ -27,30 +27,26 @@ use Rattle.ir_grammar.specs.Parts.{Tok, Part, gives, one, ◌>>=◌, either, mor
 use Rattle.ir_grammar.specs.Tokens.{is_word, is_punct, is_hash, is_local, name_place, keyword, punct, local, equals, comma, open_paren, close_paren, open_bracket, close_bracket, open_brace, close_brace}
 use Rattle.ir_grammar.specs.Numbers.{count}
 use Rattle.ir_grammar.specs.Words.{in_table, pred_word, rmw_word, flags, result_opcode_word, plain_opcode_word}
-use Rattle.ir_grammar.specs.Types.{width, scalar, memory_type, rmw_type, width_text, scalar_text, listed, typ, result_type}
+use Rattle.ir_grammar.specs.Types.{width, scalar, memory_type, rmw_type, width_text, scalar_text, listed, any_type, result_type}
 use Rattle.ir_grammar.specs.Values.{integer, value}
 use Rattle.ir_grammar.specs.Tails.{order, order_of, attributes, goes_on, finished, aligned}
 
 -- ---- operands
 
--- an operand outside of brackets
-abbrev pub operand : Ty → Part Val
-operand ty = value 63 ty
-
 -- `ptr V`
 unfoldable pub pointer : Part Val
-pointer = keyword (codes "ptr") >>= λ _. operand types.Ptr
+pointer = keyword (codes "ptr") >>= λ _. value types.Ptr
 
 unfoldable pub comma_pointer : Part Val
 comma_pointer = punct comma >>= λ _. pointer
 
 -- `, V` behind an operand of the same type
 unfoldable pub comma_operand : Ty → Part Val
-comma_operand ty = punct comma >>= λ _. operand ty
+comma_operand ty = punct comma >>= λ _. value ty
 
 -- `, T V`, where T is the word of that type
 unfoldable pub comma_same : Ty → Part Val
-comma_same ty = punct comma >>= λ _. keyword (scalar_text ty) >>= λ _. operand ty
+comma_same ty = punct comma >>= λ _. keyword (scalar_text ty) >>= λ _. value ty
 
 -- `label %L`
 unfoldable pub label : Part Loc
@@ -61,7 +57,7 @@ comma_label = punct comma >>= λ _. label
 
 -- `, iN V`
 unfoldable pub index : Part (Width × Val)
-index = punct comma >>= λ _. width >>= λ w. operand (types.Int w) >>= λ v. gives (w, v)
+index = punct comma >>= λ _. width >>= λ w. value (types.Int w) >>= λ v. gives (w, v)
 
 -- indices, and behind them those that follow
 abbrev pub more_indices : List (Width × Val) → Part (List (Width × Val))
@@ -71,31 +67,31 @@ more_indices indices = more indices goes_on index
 
 unfoldable pub binary : Loc → BinOp → Part Inst
 binary dst op =
-    flags (Binary op) >>= λ kept. width >>= λ w. operand (types.Int w) >>= λ a. comma_operand (types.Int w) >>= λ b.
+    flags (Binary op) >>= λ kept. width >>= λ w. value (types.Int w) >>= λ a. comma_operand (types.Int w) >>= λ b.
     finished (insts.Bin dst op kept w a b)
 
 unfoldable pub comparison : Loc → Part Inst
 comparison dst =
-    flags Icmp >>= λ _. one (in_table pred_word) >>= λ pred. scalar >>= λ ty. operand ty >>= λ a. comma_operand ty >>= λ b.
+    flags Icmp >>= λ _. one (in_table pred_word) >>= λ pred. scalar >>= λ ty. value ty >>= λ a. comma_operand ty >>= λ b.
     finished (insts.Cmp dst pred ty a b)
 
 unfoldable pub selection : Loc → Part Inst
 selection dst =
-    keyword (codes "i1") >>= λ _. operand (types.Int W1) >>= λ cond. punct comma >>= λ _. scalar >>= λ ty. operand ty >>= λ a. comma_same ty >>= λ b.
+    keyword (codes "i1") >>= λ _. value (types.Int W1) >>= λ cond. punct comma >>= λ _. scalar >>= λ ty. value ty >>= λ a. comma_same ty >>= λ b.
     finished (insts.Select dst cond ty a b)
 
 unfoldable pub conversion : Loc → CastOp → Part Inst
 conversion dst op =
-    flags (Cast op) >>= λ _. typ 64 >>= λ source. operand source >>= λ a. keyword (codes "to") >>= λ _. typ 64 >>= λ target.
+    flags (Cast op) >>= λ _. any_type >>= λ source. value source >>= λ a. keyword (codes "to") >>= λ _. any_type >>= λ target.
     finished (insts.Cast dst op source a target)
 
 unfoldable pub element : Loc → Part Inst
 element dst =
-    flags Gep >>= λ _. typ 64 >>= λ base. comma_pointer >>= λ ptr. index >>= λ first. more_indices (first ∷ []) >>= λ all.
+    flags Gep >>= λ _. any_type >>= λ base. comma_pointer >>= λ ptr. index >>= λ first. more_indices (first ∷ []) >>= λ all.
     finished (insts.Gep dst base ptr all)
 
 unfoldable pub allocation : Loc → Part Inst
-allocation dst = typ 64 >>= λ ty. aligned (insts.Alloca dst ty)
+allocation dst = any_type >>= λ ty. aligned (insts.Alloca dst ty)
 
 unfoldable pub loading : Loc → Part Inst
 loading dst =
@@ -104,22 +100,22 @@ loading dst =
 
 unfoldable pub updating : Loc → Part Inst
 updating dst =
-    one (in_table rmw_word) >>= λ op. pointer >>= λ ptr. punct comma >>= λ _. rmw_type op >>= λ ty. operand ty >>= λ v. order >>= λ _.
+    one (in_table rmw_word) >>= λ op. pointer >>= λ ptr. punct comma >>= λ _. rmw_type op >>= λ ty. value ty >>= λ v. order >>= λ _.
     aligned (insts.Rmw dst op ptr ty v)
 
 unfoldable pub exchange : Loc → Part Inst
 exchange dst =
-    optional (is_word (codes "weak")) >>= λ _. pointer >>= λ ptr. punct comma >>= λ _. memory_type >>= λ ty. operand ty >>= λ old. comma_same ty >>= λ new. order >>= λ _. order >>= λ _.
+    optional (is_word (codes "weak")) >>= λ _. pointer >>= λ ptr. punct comma >>= λ _. memory_type >>= λ ty. value ty >>= λ old. comma_same ty >>= λ new. order >>= λ _. order >>= λ _.
     aligned (insts.CmpXchg dst ptr ty old new)
 
 unfoldable pub extraction : Loc → Part Inst
 extraction dst =
-    punct open_brace >>= λ _. typ 63 >>= λ elem. punct comma >>= λ _. keyword (codes "i1") >>= λ _. punct close_brace >>= λ _. local >>= λ pair. punct comma >>= λ _. count 2 >>= λ n.
+    punct open_brace >>= λ _. any_type >>= λ elem. punct comma >>= λ _. keyword (codes "i1") >>= λ _. punct close_brace >>= λ _. local >>= λ pair. punct comma >>= λ _. count 2 >>= λ n.
     finished (insts.Extract dst elem pair n)
 
 -- `[ V , %L ]`
 unfoldable pub arm : Ty → Part (Val × Loc)
-arm ty = punct open_bracket >>= λ _. value 62 ty >>= λ v. punct comma >>= λ _. local >>= λ from. punct close_bracket >>= λ _. gives (v, from)
+arm ty = punct open_bracket >>= λ _. value ty >>= λ v. punct comma >>= λ _. local >>= λ from. punct close_bracket >>= λ _. gives (v, from)
 
 -- arms, and behind them those that follow
 abbrev pub more_arms : Ty → List (Val × Loc) → Part (List (Val × Loc))
@@ -140,7 +136,7 @@ abbrev pub callee_of : Tok → Option Sym
 callee_of t = elim t.kind as (λ _. Option Sym) [ At ↦ if is_callee t.text then Some (record { 0 = name_place t }) else None | _ ↦ None ]
 
 unfoldable pub argument : Part (Ty × Val)
-argument = typ 63 >>= λ ty. attributes false >>= λ _. value 62 ty >>= λ v. gives (ty, v)
+argument = any_type >>= λ ty. attributes false >>= λ _. value ty >>= λ v. gives (ty, v)
 
 abbrev pub callee : Part Sym
 callee = one callee_of
@@ -151,7 +147,7 @@ call_operands = callee >>= λ sym. punct open_paren >>= λ _. listed close_paren
 
 unfoldable pub call : Option Loc → Part Inst
 call dst =
-    attributes true >>= λ _. result_type 63 >>= λ ret. call_operands >>= λ x. optional is_hash >>= λ _.
+    attributes true >>= λ _. result_type >>= λ ret. call_operands >>= λ x. optional is_hash >>= λ _.
     finished (insts.Call dst ret x.0 x.1)
 
 unfoldable pub marked_call : Option Loc → Part Inst
@@ -161,7 +157,7 @@ marked_call dst = keyword (codes "call") >>= λ _. call dst
 
 unfoldable pub storing : Part Inst
 storing =
-    optional (is_word (codes "atomic")) >>= λ atomic. memory_type >>= λ ty. operand ty >>= λ v. comma_pointer >>= λ ptr. order_of atomic >>= λ _.
+    optional (is_word (codes "atomic")) >>= λ atomic. memory_type >>= λ ty. value ty >>= λ v. comma_pointer >>= λ ptr. order_of atomic >>= λ _.
     aligned (insts.Store ty v ptr atomic)
 
 unfoldable pub fencing : Part Inst
@@ -173,7 +169,7 @@ jump = label >>= λ to. finished (insts.Br to)
 
 -- `br i1 V, label %L, label %L`
 abbrev pub conditional : Part Inst
-conditional = keyword (codes "i1") >>= λ _. operand (types.Int W1) >>= λ cond. comma_label >>= λ yes. comma_label >>= λ no. finished (insts.CondBr cond yes no)
+conditional = keyword (codes "i1") >>= λ _. value (types.Int W1) >>= λ cond. comma_label >>= λ yes. comma_label >>= λ no. finished (insts.CondBr cond yes no)
 
 unfoldable pub branch : Part Inst
 branch = either (starts (is_word (codes "label"))) jump conditional
@@ -192,7 +188,7 @@ switch_cases w = punct open_bracket >>= λ _. more_cases w [] >>= λ cases. punc
 
 unfoldable pub switching : Part Inst
 switching =
-    width >>= λ w. operand (types.Int w) >>= λ on. comma_label >>= λ default. switch_cases w >>= λ cases.
+    width >>= λ w. value (types.Int w) >>= λ on. comma_label >>= λ default. switch_cases w >>= λ cases.
     finished (insts.Switch (types.Int w) on default cases)
 
 -- `ret void`
@@ -201,7 +197,7 @@ plain_return = keyword (codes "void") >>= λ _. finished (insts.Ret types.Void N
 
 -- `ret T V`
 abbrev pub value_return : Part Inst
-value_return = typ 64 >>= λ ty. operand ty >>= λ v. finished (insts.Ret ty (Some v))
+value_return = any_type >>= λ ty. value ty >>= λ v. finished (insts.Ret ty (Some v))
 
 unfoldable pub returning : Part Inst
 returning = either (starts (is_word (codes "void"))) plain_return value_return
@@ -244,7 +240,3 @@ plain_line = one (in_table plain_opcode_word) >>= line_without
 -- an instruction line
 unfoldable pub instruction : Part Inst
 instruction = either (starts is_local) result_line plain_line
-
--- the tokens of a line stand for the instruction
-abbrev pub IsInstruction : List Tok → Inst → Type 0
-IsInstruction tokens inst = instruction.means tokens inst

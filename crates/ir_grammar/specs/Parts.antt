@@ -192,33 +192,10 @@ read_optional false ts = Ok (false, ts)
 abbrev pub optional : (Tok → Bool) → Part Bool
 optional f = record { means = IsOptional f; reads = λ ts. read_optional (heads f ts) ts }
 
--- ---- what a front begins, and where tokens stop to fit
+-- ---- what a front begins
 
 -- some tokens behind the front complete it
 pub record Begins {A : Type 0} (means : List Tok → A → Type 0) (front : List Tok) : Type 0 where
   pub more : List Tok
   pub value : A
   pub is : means (front ++ more) value
-
--- The tokens stand for nothing, and the one at place k, counted from 0, is the first that can't stand there: those
--- before it begin something, and with it they no longer do. Where the tokens end too early, k is their number.
-pub record IsUnfit {A : Type 0} (means : List Tok → A → Type 0) (ts : List Tok) (k : ℕ) : Type 0 where
-  pub front : List Tok
-  pub stop : List Tok
-  pub whole : ts ≡ front ++ stop
-  pub place : k ≡ length front
-  pub begins : Begins means front
-  pub unfit : (token : Tok) (rest : List Tok) → stop ≡ token ∷ rest → Begins means (front ++ token ∷ []) → ⊥
-  pub nothing : (v : A) → means ts v → ⊥
-
--- tokens stand for a value, or have an unfit place
-pub data Verdict {A : Type 0} (means : List Tok → A → Type 0) (ts : List Tok) : Type 0 where
-  Stands : (v : A) → means ts v → Verdict means ts
-  Unfit : (k : ℕ) → IsUnfit means ts k → Verdict means ts
-
--- tokens stand for one value or have one unfit place, and never both
-pub record IsDecided {A : Type 0} (means : List Tok → A → Type 0) : Type 0 where
-  pub one_value : (ts : List Tok) (a b : A) → means ts a → means ts b → a ≡ b
-  pub one_place : (ts : List Tok) (j k : ℕ) → IsUnfit means ts j → IsUnfit means ts k → j ≡ k
-  pub verdict : (ts : List Tok) → Verdict means ts
-  pub never_both : (ts : List Tok) (a : A) (k : ℕ) → means ts a → IsUnfit means ts k → ⊥

@@ -34,7 +34,7 @@ use Rattle.ir_grammar.specs.declared.trees.BodyLine.TheVariants as bodies
 use Rattle.ir_grammar.specs.Parts.{Tok, Part, gives, ends, one, ◌>>=◌, either, chain, skipped, seen, heads as starts}
 use Rattle.ir_grammar.specs.Tokens.{is_punct, is_local, keyword, punct, bang, local, equals, open_paren, close_paren, close_bracket, open_brace, close_brace}
 use Rattle.ir_grammar.specs.Words.{entry, in_table, rows_of, linkage_words}
-use Rattle.ir_grammar.specs.Types.{typ, result_type, listed}
+use Rattle.ir_grammar.specs.Types.{any_depth, any_type, result_type, listed}
 use Rattle.ir_grammar.specs.Values.{symbol, constant_head, const_gep}
 use Rattle.ir_grammar.specs.Tails.{attributes, aligned}
 use Rattle.ir_grammar.specs.Lines.{instruction}
@@ -43,7 +43,7 @@ use Rattle.ir_grammar.specs.Lines.{instruction}
 
 -- `%T = type { T, .. }`
 unfoldable pub type_line : Part TopLine
-type_line = local >>= λ name. punct equals >>= λ _. keyword (codes "type") >>= λ _. punct open_brace >>= λ _. listed close_brace (typ 63) >>= λ parts. ends (tops.Type (record { 0 = name.0 }) (types.Struct parts))
+type_line = local >>= λ name. punct equals >>= λ _. keyword (codes "type") >>= λ _. punct open_brace >>= λ _. listed close_brace any_type >>= λ parts. ends (tops.Type (record { 0 = name.0 }) (types.Struct parts))
 
 -- ---- initialisers
 
@@ -101,24 +101,24 @@ abbrev pub init_first : Ty → Tok → Option (InitHead × List ℕ)
 init_first ty t = option_map (λ head. (head, t.text)) (init_head ty t)
 
 -- `T INIT`
-abbrev pub typed_init : Part Ty → (Ty → Part Init) → Part (Ty × Init)
-typed_init inner init = inner >>= λ ty. init ty >>= λ i. gives (ty, i)
+abbrev pub typed_init : (Ty → Part Init) → Part (Ty × Init)
+typed_init init = any_type >>= λ ty. init ty >>= λ i. gives (ty, i)
 
--- the rest of an initialiser behind its first token, by the types and initialisers that may stand in its brackets
-abbrev pub init_rest : ℕ → (Ty → Part Init) → List ℕ → InitHead → Part Init
-init_rest inner init text heads.Zero = gives inits.Zero
-init_rest inner init text (heads.Int n) = gives (inits.Int n)
-init_rest inner init text heads.Null = gives inits.Null
-init_rest inner init text (heads.Addr sym) = gives (inits.Addr sym)
-init_rest inner init text heads.Bytes = gives (inits.Bytes (string_bytes (between_quotes text)))
-init_rest inner init text heads.Gep = const_gep inner >>= λ gep. gives (inits.Gep gep)
-init_rest inner init text heads.Array = listed close_bracket (typed_init (typ inner) init) >>= λ parts. gives (inits.Parts parts)
-init_rest inner init text heads.Struct = listed close_brace (typed_init (typ inner) init) >>= λ parts. gives (inits.Parts parts)
+-- the rest of an initialiser behind its first token, by the initialisers that may stand in its brackets
+abbrev pub init_rest : (Ty → Part Init) → List ℕ → InitHead → Part Init
+init_rest init text heads.Zero = gives inits.Zero
+init_rest init text (heads.Int n) = gives (inits.Int n)
+init_rest init text heads.Null = gives inits.Null
+init_rest init text (heads.Addr sym) = gives (inits.Addr sym)
+init_rest init text heads.Bytes = gives (inits.Bytes (string_bytes (between_quotes text)))
+init_rest init text heads.Gep = const_gep >>= λ gep. gives (inits.Gep gep)
+init_rest init text heads.Array = listed close_bracket (typed_init init) >>= λ parts. gives (inits.Parts parts)
+init_rest init text heads.Struct = listed close_brace (typed_init init) >>= λ parts. gives (inits.Parts parts)
 
--- an initialiser of the type, with so many brackets at most that stand open in it at once
+-- an initialiser of the type, with so many lists of parts at most inside one another
 unfoldable pub init : ℕ → Ty → Part Init
 init zero ty = one (flat_init ty)
-init (suc n) ty = one (init_first ty) >>= λ x. init_rest n (init n) x.1 x.0
+init (suc n) ty = one (init_first ty) >>= λ x. init_rest (init n) x.1 x.0
 
 -- ---- globals
 
@@ -135,7 +135,7 @@ global_word = entry ((codes "global", true) ∷ (codes "constant", true) ∷ [])
 
 -- `@g = [words] global T INIT [, align N]`
 unfoldable pub global_line : Part TopLine
-global_line = symbol >>= λ sym. punct equals >>= λ _. linkage >>= λ _. one (in_table global_word) >>= λ _. typ 64 >>= λ ty. init 64 ty >>= λ i. aligned (tops.Global (record { sym = sym; ty = ty; init = i }))
+global_line = symbol >>= λ sym. punct equals >>= λ _. linkage >>= λ _. one (in_table global_word) >>= λ _. any_type >>= λ ty. init any_depth ty >>= λ i. aligned (tops.Global (record { sym = sym; ty = ty; init = i }))
 
 -- ---- functions
 
@@ -159,7 +159,7 @@ separator t = elim t.kind as (λ _. Option Bool) [ Punct ↦ entry ((codes ",", 
 
 -- `T [attrs] ,` or `T [attrs] )`
 unfoldable pub declared_param : Part (Ty × Bool)
-declared_param = typ 63 >>= λ ty. attributes false >>= λ _. one separator >>= λ more. gives (ty, more)
+declared_param = any_type >>= λ ty. attributes false >>= λ _. one separator >>= λ more. gives (ty, more)
 
 -- `[%x] ,` or `[%x] )`
 unfoldable pub param_name : Part (Option Loc × Bool)
@@ -167,7 +167,7 @@ param_name = either (starts is_local) (local >>= λ name. one separator >>= λ m
 
 -- `T [attrs] [%x] ,` or `T [attrs] [%x] )`
 unfoldable pub defined_param : Part ((Ty × Option Loc) × Bool)
-defined_param = typ 63 >>= λ ty. attributes false >>= λ _. param_name >>= λ x. gives ((ty, x.0), x.1)
+defined_param = any_type >>= λ ty. attributes false >>= λ _. param_name >>= λ x. gives ((ty, x.0), x.1)
 
 -- parameters in parentheses
 abbrev pub params_of : {A : Type 0} → Part (A × Bool) → Part (List A)
@@ -176,13 +176,13 @@ params_of param = punct open_paren >>= λ _. either (starts (is_punct close_pare
 -- `declare [words] [attrs] T @f ( T [attrs], .. ) [tail words]`, behind its first word
 unfoldable pub declare_line : Part TopLine
 declare_line =
-    attributes true >>= λ _. result_type 63 >>= λ ret. symbol >>= λ sym. params_of declared_param >>= λ params. behind_params >>= λ _.
+    attributes true >>= λ _. result_type >>= λ ret. symbol >>= λ sym. params_of declared_param >>= λ params. behind_params >>= λ _.
     ends (tops.Declare (record { sym = sym; ret = ret; params = params }))
 
 -- `define [words] [attrs] T @f ( T [attrs] [%x], .. ) [tail words] {`, behind its first word
 unfoldable pub define_line : Part TopLine
 define_line =
-    attributes true >>= λ _. result_type 63 >>= λ ret. symbol >>= λ sym. params_of defined_param >>= λ params. behind_params >>= λ _. punct open_brace >>= λ _.
+    attributes true >>= λ _. result_type >>= λ ret. symbol >>= λ sym. params_of defined_param >>= λ params. behind_params >>= λ _. punct open_brace >>= λ _.
     ends (tops.Define (record { sym = sym; ret = ret; params = params }))
 
 -- ---- all lines outside functions

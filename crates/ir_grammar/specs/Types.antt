@@ -1,7 +1,7 @@
 -- Types as a line writes them (LLVM Language Reference, 'Type System').
 --
 -- Choices: a name stands for the place where it begins; what its number is, is said where names are numbered.
--- A part that may hold brackets is told how many may still be opened in it. `void` is a type of results alone.
+-- `void` is a type of results alone.
 use Rattle.std.specs.Prelude.{ℕ, zero, suc, ◌^◌, Bool, true, false, List, [], ◌∷◌, codes, Option, Some, None, option_map, option_and_then, if◌then◌else◌}
 use Rattle.std.specs.Str.{bytes_eq}
 use Rattle.ir_core.specs.declared.text.TokKind.TheVariants.{Word, Local, Punct}
@@ -104,18 +104,26 @@ flat heads.Struct = None
 abbrev pub flat_type : Tok → Option Ty
 flat_type t = option_and_then flat (type_head false t)
 
--- a type, with so many brackets at most that stand open in it at once
+-- a type, with so many brackets at most inside one another
 unfoldable pub typ : ℕ → Part Ty
 typ zero = one flat_type
 typ (suc n) = one (type_head true) >>= type_rest (typ n)
 
--- the type of a result, with so many brackets at most that stand open inside its first one
+-- How deep types and initialisers may be nested: as deep as the longest line that is read has bytes, and far deeper than
+-- brackets may stand open (`Fitting`). So this is no limit, and the forms say nothing of how many brackets stand open.
+abbrev pub any_depth : ℕ
+any_depth = 4194304
+
+abbrev pub any_type : Part Ty
+any_type = typ any_depth
+
+-- the type of a result
 abbrev pub result_head : Tok → Option ResultHead
 result_head t = elim t.kind as (λ _. Option ResultHead) [ Word ↦ if bytes_eq t.text (codes "void") then Some results.Void else option_map results.Some (type_word t.text) | _ ↦ option_map results.Some (type_head true t) ]
 
-abbrev pub result_rest : ℕ → ResultHead → Part Ty
-result_rest inner results.Void = gives types.Void
-result_rest inner (results.Some head) = type_rest (typ inner) head
+abbrev pub result_rest : ResultHead → Part Ty
+result_rest results.Void = gives types.Void
+result_rest (results.Some head) = type_rest any_type head
 
-unfoldable pub result_type : ℕ → Part Ty
-result_type inner = one result_head >>= result_rest inner
+unfoldable pub result_type : Part Ty
+result_type = one result_head >>= result_rest

@@ -1,8 +1,7 @@
 -- Values as a line writes them (LLVM Language Reference, 'Constants').
 --
 -- Choices: a value stands behind its type, which says what fits. A register fits behind any type; whether its own
--- type is the written one is no matter of the text. A part is told how many brackets may be opened inside a
--- value's parentheses.
+-- type is the written one is no matter of the text.
 use Rattle.std.specs.Prelude.{ℕ, List, [], ◌∷◌, codes, Option, Some, None, option_map}
 use Rattle.ir_core.specs.declared.text.TokKind.TheVariants.{Word, Local, At, Num}
 use Rattle.ir_core.specs.declared.types.Width.{Width}
@@ -20,7 +19,7 @@ use Rattle.ir_grammar.specs.Parts.{Tok, Part, gives, one, ◌>>=◌}
 use Rattle.ir_grammar.specs.Tokens.{name_place, keyword, punct, comma, open_paren, close_paren}
 use Rattle.ir_grammar.specs.Numbers.{bits, word_written}
 use Rattle.ir_grammar.specs.Words.{entry, flags}
-use Rattle.ir_grammar.specs.Types.{width, typ, more_listed}
+use Rattle.ir_grammar.specs.Types.{width, any_type, more_listed}
 
 -- ---- constants of one token
 
@@ -53,10 +52,10 @@ unfoldable pub const_operands : Part (Sym × List (Width × ℕ))
 const_operands =
     punct comma >>= λ _. keyword (codes "ptr") >>= λ _. symbol >>= λ sym. punct comma >>= λ _. constant_index >>= λ index. more_listed (index ∷ []) constant_index >>= λ all. punct close_paren >>= λ _. gives (sym, all)
 
--- what stands behind the word, with so many brackets at most inside the parentheses
-unfoldable pub const_gep : ℕ → Part ConstGep
-const_gep inner =
-    flags Gep >>= λ _. punct open_paren >>= λ _. typ inner >>= λ base. const_operands >>= λ x.
+-- what stands behind the word
+unfoldable pub const_gep : Part ConstGep
+const_gep =
+    flags Gep >>= λ _. punct open_paren >>= λ _. any_type >>= λ base. const_operands >>= λ x.
     gives (record { base = base; sym = x.0; index = x.1 })
 
 -- ---- values
@@ -75,13 +74,13 @@ constant_head ty t = elim ty as (λ _. Option ValueHead) [ types.Int w ↦ optio
 abbrev pub value_head : Ty → Tok → Option ValueHead
 value_head ty t = elim t.kind as (λ _. Option ValueHead) [ Local ↦ Some (heads.Reg (record { 0 = name_place t })) | _ ↦ constant_head ty t ]
 
-abbrev pub value_rest : ℕ → ValueHead → Part Val
-value_rest inner (heads.Reg loc) = gives (values.Reg loc)
-value_rest inner (heads.Int n) = gives (values.Int n)
-value_rest inner heads.Null = gives values.Null
-value_rest inner (heads.Global sym) = gives (values.Global sym)
-value_rest inner heads.Gep = const_gep inner >>= λ gep. gives (values.Gep gep)
+abbrev pub value_rest : ValueHead → Part Val
+value_rest (heads.Reg loc) = gives (values.Reg loc)
+value_rest (heads.Int n) = gives (values.Int n)
+value_rest heads.Null = gives values.Null
+value_rest (heads.Global sym) = gives (values.Global sym)
+value_rest heads.Gep = const_gep >>= λ gep. gives (values.Gep gep)
 
 -- a value of the type
-unfoldable pub value : ℕ → Ty → Part Val
-value inner ty = one (value_head ty) >>= value_rest inner
+unfoldable pub value : Ty → Part Val
+value ty = one (value_head ty) >>= value_rest

@@ -66,6 +66,15 @@ pub enum FlagSet {
     Icmp,
 }
 
+/// What a token does to the brackets that stand open.
+#[derive(Clone, Copy)]
+pub enum Bracket {
+    /// `(`, `[` or `{`
+    Opens,
+    /// `)`, `]` or `}`
+    Closes,
+}
+
 /// The first token of an attribute.
 #[derive(Clone, Copy)]
 pub enum AttributeHead {

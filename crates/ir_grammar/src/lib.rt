@@ -11,7 +11,8 @@ mod laws;
 mod trees;
 
 pub use heads::{
-    AttributeHead, Flag, FlagSet, PlainOpcode, ResultHead, ResultOpcode, TypeHead, ValueHead,
+    AttributeHead, Bracket, Flag, FlagSet, PlainOpcode, ResultHead, ResultOpcode, TypeHead,
+    ValueHead,
 };
 pub use laws::{body_line_or_unfit, instruction_or_unfit, top_line_or_unfit};
 pub use trees::{BodyLine, Head, InitHead, Params, TailHead, TopLine, TopWord};

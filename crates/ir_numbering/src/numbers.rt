@@ -16,7 +16,7 @@ pub struct Numbers<'a> {
 }
 
 /// The longest name at a place; empty past the end of the text.
-pub(crate) fn name_at(text: &[u8], at: u32) -> &[u8]
+pub fn name_at(text: &[u8], at: u32) -> &[u8]
     ensures { result.now ≡ name_from text.now at }
 {
     let at = at as usize;

@@ -4,7 +4,7 @@ use Rattle.ir_core.specs.declared.text.Token.{Token}
 use Rattle.ir_core.specs.declared.instruction.Inst.{Inst}
 use Rattle.ir_core.specs.Module.{ModuleParts, FuncParts}
 use Rattle.ir_grammar.specs.Tokens.{tokens_of}
-use Rattle.ir_grammar.specs.Lines.{IsInstruction}
+use Rattle.ir_grammar.specs.Fitting.{IsInstruction}
 use Rattle.ir_numbering.specs.Places.{places_of_inst}
 use Rattle.ir_numbering.specs.Renaming.{renamed_inst}
 use Rattle.ir_numbering.specs.Numbers.{module_with, func_with, renaming_of}

@@ -13,4 +13,4 @@ mod plain;
 mod results;
 
 pub use lines::instruction;
-pub use parse::{InstError, parse_inst, read_inst};
+pub use parse::{parse_inst, read_inst};

@@ -27,7 +27,7 @@ pub(crate) fn element(reader: &mut Reader, dst: Loc) -> Result<Inst, Stop>
     ensures { Gave result reader.new ((element dst).reads reader.old) }
 {
     reader.flags(FlagSet::Gep);
-    let base = reader.typ(64)?;
+    let base = reader.any_type()?;
     let ptr = comma_pointer(reader)?;
     let mut indices = Seq::new(reader.alloc());
     indices.push(index(reader)?)?;
@@ -49,7 +49,7 @@ fn arm(reader: &mut Reader, ty: &Ty) -> Result<(Val, Loc), Stop>
     ensures { Gave result reader.new ((arm ty.now).reads reader.old) }
 {
     reader.punct(b'[')?;
-    let value = reader.value(ty, 62)?;
+    let value = reader.value(ty)?;
     reader.punct(b',')?;
     let from = reader.local()?;
     reader.punct(b']')?;
@@ -107,9 +107,9 @@ fn callee(reader: &mut Reader) -> Result<Sym, Stop>
 fn argument(reader: &mut Reader) -> Result<(Ty, Val), Stop>
     ensures { Gave result reader.new (argument.reads reader.old) }
 {
-    let ty = reader.typ(63)?;
+    let ty = reader.any_type()?;
     reader.attributes(false)?;
-    let value = reader.value(&ty, 62)?;
+    let value = reader.value(&ty)?;
     Ok((ty, value))
 }
 
@@ -154,7 +154,7 @@ pub(crate) fn call(reader: &mut Reader, dst: Option<Loc>) -> Result<Inst, Stop>
     ensures { Gave result reader.new ((call dst).reads reader.old) }
 {
     reader.attributes(true)?;
-    let ret = reader.result_type(63)?;
+    let ret = reader.result_type()?;
     let (callee, args) = call_operands(reader)?;
     reader.optional_hash();
     finish(
@@ -216,7 +216,7 @@ pub(crate) fn switching(reader: &mut Reader) -> Result<Inst, Stop>
 {
     let width = reader.width()?;
     let ty = Ty::Int(width);
-    let on = reader.value(&ty, 63)?;
+    let on = reader.value(&ty)?;
     let default = comma_label(reader)?;
     let cases = switch_cases(reader, width)?;
     finish(

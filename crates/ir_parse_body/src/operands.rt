@@ -14,7 +14,7 @@ pub(crate) fn pointer(reader: &mut Reader) -> Result<Val, Stop>
     ensures { Gave result reader.new (pointer.reads reader.old) }
 {
     reader.keyword(b"ptr")?;
-    reader.value(&Ty::Ptr, 63)
+    reader.value(&Ty::Ptr)
 }
 
 /// `, ptr V`
@@ -32,7 +32,7 @@ pub(crate) fn comma_operand(reader: &mut Reader, ty: &Ty) -> Result<Val, Stop>
     ensures { Gave result reader.new ((comma_operand ty.now).reads reader.old) }
 {
     reader.punct(b',')?;
-    reader.value(ty, 63)
+    reader.value(ty)
 }
 
 /// `, T V`, where T is the type again.
@@ -42,7 +42,7 @@ pub(crate) fn comma_same(reader: &mut Reader, ty: &Ty) -> Result<Val, Stop>
 {
     reader.punct(b',')?;
     reader.same_type(ty)?;
-    reader.value(ty, 63)
+    reader.value(ty)
 }
 
 /// `label %L`
@@ -70,7 +70,7 @@ pub(crate) fn index(reader: &mut Reader) -> Result<(Width, Val), Stop>
 {
     reader.punct(b',')?;
     let width = reader.width()?;
-    let value = reader.value(&Ty::Int(width), 63)?;
+    let value = reader.value(&Ty::Int(width))?;
     Ok((width, value))
 }
 

@@ -1,52 +1,28 @@
 //! An instruction line: what its tokens stand for, or its first token that doesn't fit.
 ghost use Rattle.std.specs.Prelude.{◌≡◌, ◌≤◌, ℕ, length, IfOk, OnErr, IsErrOf};
 ghost use Rattle.ir_core.specs.Tokens.{AreWithin};
-ghost use Rattle.ir_grammar.specs.Parts.{IsUnfit};
 ghost use Rattle.ir_grammar.specs.Tokens.{tokens_of};
-ghost use Rattle.ir_grammar.specs.Lines.{IsInstruction};
+ghost use Rattle.ir_grammar.specs.Lines.{instruction};
+ghost use Rattle.ir_grammar.specs.Fitting.{IsInstruction, IsUnfit};
 ghost use Rattle.ir_parse_body.specs.Instruction.{StandsFor, KeepsAllButNames};
-ghost use Rattle.ir_parse_body.specs.declared.parse.InstError.TheVariants.{Unfit, NoMemory};
+ghost use Rattle.ir_parse_parts.specs.declared.stops.LineError.TheVariants.{Unfit};
 
 use crate::lines::instruction;
 use ir_core::{Func, Inst, Module, Token};
 use ir_numbering::numbered;
-use ir_parse_parts::{Reader, Stop};
-use std::alloc::{AllocError, Global};
-use thiserror::Error;
-
-/// Why the tokens of a line stand for no instruction.
-#[derive(Debug, Drop, Error)]
-pub enum InstError {
-    /// The token with this number, counted from 0, is the first that can't stand there; it is the number of
-    /// tokens where they end too early.
-    #[error("unfit token {0}")]
-    Unfit(u32),
-    /// Memory for the instruction or for its names was refused.
-    #[error("no memory")]
-    NoMemory,
-}
-
-impl From<AllocError> for InstError {
-    ghost from_gives = { λ _ e. e ≡ NoMemory };
-
-    fn from(_: AllocError) -> InstError {
-        InstError::NoMemory
-    }
-}
+use ir_parse_parts::{LineError, Reader, answered};
+use std::alloc::Global;
 
 /// The instruction that the tokens of a line stand for, with the places of names in place of their numbers.
-pub fn read_inst(alloc: Global, line: &[u8], tokens: &[Token]) -> Result<Inst, InstError>
+pub fn read_inst(alloc: Global, line: &[u8], tokens: &[Token]) -> Result<Inst, LineError>
     requires short { length line.now ≤ 4194304 }
     requires within { AreWithin (length line.now) tokens.now }
     ensures inst { IfOk result (IsInstruction (tokens_of line.now tokens.now)) }
-    ensures unfit { (k : ℕ) → IsErrOf result (Unfit k) → IsUnfit IsInstruction (tokens_of line.now tokens.now) k }
+    ensures unfit { (k : ℕ) → IsErrOf result (Unfit k) → IsUnfit instruction.means (tokens_of line.now tokens.now) k }
 {
     let mut reader = Reader::new(alloc, line, tokens);
-    match instruction(&mut reader) {
-        Ok(inst) => Ok(inst),
-        Err(Stop::Unfit(left)) => Err(InstError::Unfit((tokens.len() - left) as u32)),
-        Err(Stop::NoMemory) => Err(InstError::NoMemory),
-    }
+    let fitting = reader.len();
+    answered(instruction(&mut reader), fitting, tokens.len())
 }
 
 /// The instruction that the tokens of a line inside a function stand for (LLVM Language Reference, 'Instruction
@@ -61,11 +37,11 @@ pub fn parse_inst(
     f: &mut Func,
     line: &[u8],
     tokens: &[Token],
-) -> Result<Inst, InstError>
+) -> Result<Inst, LineError>
     requires short { length line.now ≤ 4194304 }
     requires within { AreWithin (length line.now) tokens.now }
     ensures inst { IfOk result (StandsFor line.now tokens.now m.old f.old m.new f.new) }
-    ensures unfit { (k : ℕ) → IsErrOf result (Unfit k) → IsUnfit IsInstruction (tokens_of line.now tokens.now) k }
+    ensures unfit { (k : ℕ) → IsErrOf result (Unfit k) → IsUnfit instruction.means (tokens_of line.now tokens.now) k }
     ensures unchanged { (k : ℕ) → IsErrOf result (Unfit k) → (m.new ≡ m.old) × (f.new ≡ f.old) }
     ensures err { OnErr result (KeepsAllButNames m.old f.old m.new f.new) }
 {

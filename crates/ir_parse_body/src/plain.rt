@@ -14,7 +14,7 @@ pub(crate) fn storing(reader: &mut Reader) -> Result<Inst, Stop>
 {
     let atomic = reader.optional_word(b"atomic");
     let ty = reader.memory_type()?;
-    let val = reader.value(&ty, 63)?;
+    let val = reader.value(&ty)?;
     let ptr = comma_pointer(reader)?;
     reader.order_of(atomic)?;
     finish_aligned(
@@ -48,7 +48,7 @@ fn conditional(reader: &mut Reader) -> Result<Inst, Stop>
     ensures { Gave result reader.new (conditional.reads reader.old) }
 {
     reader.keyword(b"i1")?;
-    let cond = reader.value(&Ty::Int(Width::W1), 63)?;
+    let cond = reader.value(&Ty::Int(Width::W1))?;
     let yes = comma_label(reader)?;
     let no = comma_label(reader)?;
     finish(reader, Inst::CondBr { cond, yes, no })
@@ -76,8 +76,8 @@ fn plain_return(reader: &mut Reader) -> Result<Inst, Stop>
 fn value_return(reader: &mut Reader) -> Result<Inst, Stop>
     ensures { Gave result reader.new (value_return.reads reader.old) }
 {
-    let ty = reader.typ(64)?;
-    let val = reader.value(&ty, 63)?;
+    let ty = reader.any_type()?;
+    let val = reader.value(&ty)?;
     finish(reader, Inst::Ret { ty, val: Some(val) })
 }
 

@@ -17,7 +17,7 @@ pub(crate) fn binary(reader: &mut Reader, dst: Loc, op: BinOp) -> Result<Inst, S
     let flags = reader.flags(FlagSet::Binary(op));
     let w = reader.width()?;
     let ty = Ty::Int(w);
-    let a = reader.value(&ty, 63)?;
+    let a = reader.value(&ty)?;
     let b = comma_operand(reader, &ty)?;
     finish(
         reader,
@@ -50,7 +50,7 @@ pub(crate) fn comparison(reader: &mut Reader, dst: Loc) -> Result<Inst, Stop>
     let found = reader.word().and_then(pred_word);
     let pred = reader.take(found)?;
     let ty = reader.scalar()?;
-    let a = reader.value(&ty, 63)?;
+    let a = reader.value(&ty)?;
     let b = comma_operand(reader, &ty)?;
     finish(
         reader,
@@ -70,10 +70,10 @@ pub(crate) fn selection(reader: &mut Reader, dst: Loc) -> Result<Inst, Stop>
     ensures { Gave result reader.new ((selection dst).reads reader.old) }
 {
     reader.keyword(b"i1")?;
-    let cond = reader.value(&Ty::Int(Width::W1), 63)?;
+    let cond = reader.value(&Ty::Int(Width::W1))?;
     reader.punct(b',')?;
     let ty = reader.scalar()?;
-    let a = reader.value(&ty, 63)?;
+    let a = reader.value(&ty)?;
     let b = comma_same(reader, &ty)?;
     finish(
         reader,
@@ -93,10 +93,10 @@ pub(crate) fn conversion(reader: &mut Reader, dst: Loc, op: CastOp) -> Result<In
     ensures { Gave result reader.new ((conversion dst op).reads reader.old) }
 {
     reader.flags(FlagSet::Cast(op));
-    let from = reader.typ(64)?;
-    let a = reader.value(&from, 63)?;
+    let from = reader.any_type()?;
+    let a = reader.value(&from)?;
     reader.keyword(b"to")?;
-    let to = reader.typ(64)?;
+    let to = reader.any_type()?;
     finish(
         reader,
         Inst::Cast {
@@ -114,7 +114,7 @@ pub(crate) fn conversion(reader: &mut Reader, dst: Loc, op: CastOp) -> Result<In
 pub(crate) fn allocation(reader: &mut Reader, dst: Loc) -> Result<Inst, Stop>
     ensures { Gave result reader.new ((allocation dst).reads reader.old) }
 {
-    let ty = reader.typ(64)?;
+    let ty = reader.any_type()?;
     finish_aligned(reader, Inst::Alloca { dst, ty })
 }
 
@@ -157,7 +157,7 @@ pub(crate) fn updating(reader: &mut Reader, dst: Loc) -> Result<Inst, Stop>
     let ptr = pointer(reader)?;
     reader.punct(b',')?;
     let ty = reader.rmw_type(op)?;
-    let val = reader.value(&ty, 63)?;
+    let val = reader.value(&ty)?;
     reader.order()?;
     finish_aligned(
         reader,
@@ -180,7 +180,7 @@ pub(crate) fn exchange(reader: &mut Reader, dst: Loc) -> Result<Inst, Stop>
     let ptr = pointer(reader)?;
     reader.punct(b',')?;
     let ty = reader.memory_type()?;
-    let old = reader.value(&ty, 63)?;
+    let old = reader.value(&ty)?;
     let new = comma_same(reader, &ty)?;
     reader.order()?;
     reader.order()?;
@@ -202,7 +202,7 @@ pub(crate) fn extraction(reader: &mut Reader, dst: Loc) -> Result<Inst, Stop>
     ensures { Gave result reader.new ((extraction dst).reads reader.old) }
 {
     reader.punct(b'{')?;
-    let elem = reader.typ(63)?;
+    let elem = reader.any_type()?;
     reader.punct(b',')?;
     reader.keyword(b"i1")?;
     reader.punct(b'}')?;

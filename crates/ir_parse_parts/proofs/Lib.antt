@@ -1,2 +1,4 @@
 pub mod Digits
 pub mod Exits
+pub mod Fronts
+pub mod WholeLines

@@ -1,4 +1,5 @@
 pub mod Views
 pub mod Kept
 pub mod Reads
+pub mod Answers
 pub mod Numbers

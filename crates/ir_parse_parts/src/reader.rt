@@ -6,13 +6,45 @@ ghost use Rattle.ir_parse_parts.specs.declared.stops.Stop.TheVariants.{Unfit};
 ghost use Rattle.ir_core.specs.Tokens.{AreWithin};
 ghost use Rattle.ir_grammar.specs.Parts.{first, taken, heads, optional, ends};
 ghost use Rattle.ir_grammar.specs.Top.{is_at};
+ghost use Rattle.ir_grammar.specs.Fitting.{bracket_of, open_behind, shallow_front};
 ghost use Rattle.ir_parse_parts.specs.Reads.{Gave, Passed};
 ghost use Rattle.ir_parse_parts.specs.Views.{tok_view};
 
-use crate::{Stop, Tok};
+use crate::{Stop, Tok, word_table};
 use ir_core::{Loc, TokKind, Token};
+use ir_grammar::Bracket;
 use std::alloc::Global;
 use std::marker::Model;
+
+/// How many brackets may stand open at once.
+const MOST_OPEN: u32 = 64;
+
+/// What a token does to brackets.
+fn bracket_of(tok: &Tok) -> Option<Bracket>
+    ensures { result ≡ bracket_of (tok_view tok.now) }
+{
+    match tok.kind {
+        TokKind::Punct => {
+            let text = tok.text;
+            word_table!(text;
+                b"(" => Bracket::Opens, b"[" => Bracket::Opens, b"{" => Bracket::Opens,
+                b")" => Bracket::Closes, b"]" => Bracket::Closes, b"}" => Bracket::Closes)
+        }
+        _ => None,
+    }
+}
+
+/// How many brackets stand open behind a token where so many do before it, if no more than may.
+fn open_behind(bracket: Option<Bracket>, before: u32) -> Option<u32>
+    ensures { result ≡ open_behind bracket before }
+{
+    match bracket {
+        None => Some(before),
+        Some(Bracket::Opens) if before < MOST_OPEN => Some(before + 1),
+        Some(Bracket::Opens) => None,
+        Some(Bracket::Closes) => Some(before.saturating_sub(1)),
+    }
+}
 
 /// The tokens of a line that are left.
 #[derive(Drop)]
@@ -36,16 +68,62 @@ impl<'a> Model for Reader<'a> {
 }
 
 impl<'a> Reader<'a> {
-    /// A reader of all tokens of a line.
+    /// A reader of the tokens of a line before the first that opens a bracket too many.
     pub fn new(alloc: Global, line: &'a [u8], tokens: &'a [Token]) -> Reader<'a>
         requires short { length line.now ≤ 4194304 }
         requires within { AreWithin (length line.now) tokens.now }
-        ensures { result ≡ tokens_of line.now tokens.now }
+        ensures { result ≡ shallow_front 0 (tokens_of line.now tokens.now) }
     {
-        Reader {
+        let all = Reader {
             alloc,
             line,
             tokens,
+        };
+        Reader {
+            alloc,
+            line,
+            tokens: &tokens[..all.shallow_len()],
+        }
+    }
+
+    /// How many tokens are left.
+    pub fn len(&self) -> usize
+        ensures { result ≡ length self.now }
+    {
+        self.tokens.len()
+    }
+
+    /// How many tokens stand before the first that opens a bracket too many.
+    fn shallow_len(&self) -> usize
+        ensures { result ≡ length (shallow_front 0 self.now) }
+    {
+        let mut ahead = self.again();
+        let mut standing = 0;
+        'tokens: while let Some(behind) = ahead.open_behind_next(standing) {
+            standing = behind;
+            ahead.skip();
+        }
+        self.len() - ahead.len()
+    }
+
+    /// How many brackets stand open behind the next token where so many do before it, if no more than may.
+    fn open_behind_next(&self, before: u32) -> Option<u32>
+        ensures { result ≡ option_and_then (λ t. open_behind (bracket_of t) before) (first self.now) }
+    {
+        match self.peek() {
+            Some(tok) => open_behind(bracket_of(&tok), before),
+            None => None,
+        }
+    }
+
+    /// A reader of the same tokens.
+    fn again(&self) -> Reader<'a>
+        ensures { result ≡ self.now }
+    {
+        Reader {
+            alloc: self.alloc,
+            line: self.line,
+            tokens: self.tokens,
         }
     }
 

@@ -25,7 +25,7 @@ impl Tok<'_> {
         self.at + 1
     }
 
-    pub(crate) fn is_punct(&self, byte: u8) -> bool
+    pub fn is_punct(&self, byte: u8) -> bool
         ensures { result ≡ is_punct byte (tok_view self.now) }
     {
         match self.kind {
@@ -34,7 +34,7 @@ impl Tok<'_> {
         }
     }
 
-    pub(crate) fn is_word(&self, word: &[u8]) -> bool
+    pub fn is_word(&self, word: &[u8]) -> bool
         ensures { result ≡ is_word word.now (tok_view self.now) }
     {
         match self.kind {

@@ -1,13 +1,16 @@
 //! Types.
 ghost use Rattle.std.specs.Prelude.{◌≡◌, ◌<◌, suc};
 ghost use Rattle.ir_grammar.specs.Tokens.{close_brace, keyword};
-ghost use Rattle.ir_grammar.specs.Types.{width_word, scalar_word, memory_word, rmw_type_word, width, scalar, memory_type, rmw_type, width_text, scalar_text, type_word, bracket, type_head, listed, more_listed, type_rest, flat, flat_type, typ, result_head, result_type};
+ghost use Rattle.ir_grammar.specs.Types.{width_word, scalar_word, memory_word, rmw_type_word, width, scalar, memory_type, rmw_type, width_text, scalar_text, type_word, bracket, type_head, listed, more_listed, type_rest, flat, flat_type, typ, any_depth, any_type, result_head, result_type};
 ghost use Rattle.ir_parse_parts.specs.Views.{tok_view};
 ghost use Rattle.ir_parse_parts.specs.Reads.{Gave, Passed, Filled};
 
 use crate::{Reader, Stop, Tok, word_table};
 use ir_core::{Boxed, RmwOp, Seq, TokKind, Ty, TypeId, Tys, Width};
 use ir_grammar::{ResultHead, TypeHead};
+
+/// How deep types and initialisers may be nested: far deeper than brackets may stand open.
+pub const ANY_DEPTH: u32 = 4_194_304;
 
 fn width_word(word: &[u8]) -> Option<Width>
     ensures { result ≡ width_word word.now }
@@ -176,10 +179,24 @@ impl Reader<'_> {
         self.keyword(scalar_text(ty))
     }
 
-    /// A type, with so many brackets at most that stand open in it at once.
+    /// A type.
+    pub fn any_type(&mut self) -> Result<Ty, Stop>
+        ensures { Gave result self.new (any_type.reads self.old) }
+    {
+        self.typ(ANY_DEPTH)
+    }
+
+    /// Types up to a `}`.
+    pub fn types(&mut self) -> Result<Tys, Stop>
+        ensures { Gave result self.new ((listed close_brace any_type).reads self.old) }
+    {
+        self.type_list(ANY_DEPTH)
+    }
+
+    /// A type, with so many brackets at most inside one another.
     #[cycle(types)]
     #[tactic(auto, unfolding(ir_grammar::specs::Types::typ))]
-    pub fn typ(&mut self, brackets: u32) -> Result<Ty, Stop>
+    fn typ(&mut self, brackets: u32) -> Result<Ty, Stop>
         ensures { Gave result self.new ((typ brackets).reads self.old) }
     {
         if brackets == 0 {
@@ -230,9 +247,8 @@ impl Reader<'_> {
         Ok(Ty::Struct(parts))
     }
 
-    /// Types up to a `}`, with so many brackets at most that stand open in one of them at once.
     #[cycle(types)]
-    pub fn type_list(&mut self, inner: u32) -> Result<Tys, Stop>
+    fn type_list(&mut self, inner: u32) -> Result<Tys, Stop>
         ensures { Gave result self.new ((listed close_brace (typ inner)).reads self.old) }
     {
         let mut types = Seq::new(self.alloc());
@@ -260,8 +276,8 @@ impl Reader<'_> {
 
     /// The type of a result.
     #[tactic(auto, unfolding(ir_grammar::specs::Types::result_type))]
-    pub fn result_type(&mut self, inner: u32) -> Result<Ty, Stop>
-        ensures { Gave result self.new ((result_type inner).reads self.old) }
+    pub fn result_type(&mut self) -> Result<Ty, Stop>
+        ensures { Gave result self.new (result_type.reads self.old) }
     {
         let found = match self.peek() {
             Some(tok) => result_head(&tok),
@@ -269,7 +285,7 @@ impl Reader<'_> {
         };
         match self.take(found)? {
             ResultHead::Void => Ok(Ty::Void),
-            ResultHead::Some(head) => self.type_rest(head, inner),
+            ResultHead::Some(head) => self.type_rest(head, ANY_DEPTH),
         }
     }
 }

@@ -100,23 +100,22 @@ impl Reader<'_> {
         Ok((sym, indices))
     }
 
-    /// What stands behind the word `getelementptr` of a constant, with so many brackets at most inside the
-    /// parentheses.
+    /// What stands behind the word `getelementptr` of a constant.
     #[tactic(auto, unfolding(ir_grammar::specs::Values::const_gep))]
-    pub fn const_gep(&mut self, inner: u32) -> Result<ConstGep, Stop>
-        ensures { Gave result self.new ((const_gep inner).reads self.old) }
+    pub fn const_gep(&mut self) -> Result<ConstGep, Stop>
+        ensures { Gave result self.new (const_gep.reads self.old) }
     {
         self.flags(FlagSet::Gep);
         self.punct(b'(')?;
-        let base = self.typ(inner)?;
+        let base = self.any_type()?;
         let (sym, index) = self.const_operands()?;
         Ok(ConstGep { base, sym, index })
     }
 
-    /// A value of the type, with so many brackets at most inside its parentheses.
+    /// A value of the type.
     #[tactic(auto, unfolding(ir_grammar::specs::Values::value))]
-    pub fn value(&mut self, ty: &Ty, inner: u32) -> Result<Val, Stop>
-        ensures { Gave result self.new ((value inner ty.now).reads self.old) }
+    pub fn value(&mut self, ty: &Ty) -> Result<Val, Stop>
+        ensures { Gave result self.new ((value ty.now).reads self.old) }
     {
         let found = match self.peek() {
             Some(tok) => value_head(ty, &tok),
@@ -127,7 +126,7 @@ impl Reader<'_> {
             ValueHead::Int(word) => Ok(Val::Int(word)),
             ValueHead::Null => Ok(Val::Null),
             ValueHead::Global(sym) => Ok(Val::Global(sym)),
-            ValueHead::Gep => Ok(Val::Gep(self.const_gep(inner)?)),
+            ValueHead::Gep => Ok(Val::Gep(self.const_gep()?)),
         }
     }
 }

@@ -9,8 +9,8 @@ use Rattle.ir_core.specs.Tokens.{HasTokens, HasBadColumn, AreWithin, IsWithin}
 use Rattle.ir_parse_top.specs.declared.switches.Pause.{Pause}
 use Rattle.ir_parse_top.specs.declared.switches.Pause.TheVariants.{Closed, AtColumn, AtEnd}
 use Rattle.ir_parse_top.specs.Text.{Line, moved, all_moved}
-use Rattle.ir_parse_top.specs.Reading.{Left, lines_left, Takes, AddsTokens, closes, Grows, Pauses, AreSound, GrowsBy, ComesTo, Gathers}
-use Rattle.ir_grammar.specs.Parts.{IsUnfit}
+use Rattle.ir_parse_top.specs.Reading.{Left, lines_left, Takes, AddsTokens, closes, Grows, Pauses, AreSound, GrowsBy, ComesTo, Gathers, taken}
+use Rattle.ir_grammar.specs.Fitting.{IsLine, IsUnfit}
 use Rattle.ir_grammar.specs.Tokens.{token_of, tokens_of}
 use Rattle.ir_grammar.specs.Top.{body_line}
 use Rattle.ir_parse_top.proofs.LinesLeft.{to_end}
@@ -57,7 +57,7 @@ module _ (old new : Left) (line : Line) (number : ℕ) (before after : List Toke
   pub comes_to_closed : AreSound old before → new.at ≤ length old.text + 1 → closes old.text own_moved ≡ true → ComesTo old new before after Closed
   comes_to_closed s inside closed = record {
     pauses = (line, adds.own, t.lines, adds.is, closed, adds.joined);
-    number = (let n : new.number ≡ old.number + 1 = t.next in omega (arith, n));
+    number = t.next;
     within = subst (λ (text : List ℕ). AreWithin (length text) after) t.text (sound_more s inside).within;
   }
 
@@ -66,8 +66,8 @@ module _ (old new : Left) (line : Line) (number : ℕ) (before after : List Toke
     slice_is : take (length all - length first) (drop (length first) all) ≡ own_moved
     slice_is = new_tokens all first own_moved (all_is ∙ adds.joined ∙ ap (λ (ts : List Token). ts ++ own_moved) (sym first_is))
 
-    pub slice_within : AreWithin (length text) (take (length all - length first) (drop (length first) all))
-    slice_within = subst (λ (x : List ℕ). AreWithin (length x) (take (length all - length first) (drop (length first) all))) (sym (in_text ∙ t.text)) (subst (AreWithin (length old.text)) (sym slice_is) own_within)
+    pub slice_within : AllByRecursion (IsWithin (length text)) (take (length all - length first) (drop (length first) all))
+    slice_within = subst (λ (x : List ℕ). AllByRecursion (IsWithin (length x)) (take (length all - length first) (drop (length first) all))) (sym (in_text ∙ t.text)) (subst (AllByRecursion (IsWithin (length old.text))) (sym slice_is) own_within.each)
 
     pub slice_closes : (b : Bool) → closes text (take (length all - length first) (drop (length first) all)) ≡ b → closes old.text own_moved ≡ b
     slice_closes b e = ap (λ (x : List ℕ). closes x own_moved) (sym (in_text ∙ t.text)) ∙ ap (closes text) (sym slice_is) ∙ e
@@ -75,7 +75,7 @@ module _ (old new : Left) (line : Line) (number : ℕ) (before after : List Toke
 pub comes_to_column : (old new : Left) (line : Line) (number column : ℕ) (before after : List Token) → Takes line number old new → AreSound old before → HasBadColumn line.bytes column → after ≡ before → ComesTo old new before after (AtColumn column)
 comes_to_column old new line number column before after t s bad same = record {
   pauses = (line, t.lines, bad, same);
-  number = (let n : new.number ≡ old.number + 1 = t.next in omega (arith, n));
+  number = t.next;
   within = subst (AreWithin (length old.text)) (sym same) s.within;
 }
 
@@ -132,7 +132,7 @@ module _ (old middle new : Left) (tokens all after : List Token) (counts counts'
     lines = g.lines;
     grows = subst (λ (ls : List Line). Grows old.text tokens ls all counts') (append-nil g.used) (subst (λ (ns : List ℕ). Grows old.text tokens (g.used ++ []) all ns) (sym more_counts) (g.grows [] all (length all ∷ []) (refl, refl)));
     pauses = subst (λ (text : List ℕ). Pauses text all after (lines_left middle) (lines_left new) pause) g.text c.pauses;
-    number = (let n : middle.number ≤ new.number = c.number in let m : middle.number ≡ old.number + length counts = g.number in let l = counts_length in omega (arith, n, m, l));
+    number = (let n : new.number ≡ middle.number + taken pause = c.number in let m : middle.number ≡ old.number + length counts = g.number in let l : length counts' ≡ length counts + 1 = counts_length in let e : new.number + 1 ≡ old.number + length counts' + taken pause = omega (arith, n, m, l) in e);
     within = subst (λ (text : List ℕ). AreWithin (length text) after) g.text c.within;
   }
 

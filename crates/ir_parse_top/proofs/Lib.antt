@@ -5,3 +5,6 @@ mod Telling
 mod Found
 mod Gathering
 mod Unfit
+mod Unclosed
+mod Groups
+mod SwitchLines

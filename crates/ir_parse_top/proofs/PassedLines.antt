@@ -8,7 +8,7 @@ use Rattle.ir_core.specs.declared.text.LinePlace.{LinePlace}
 use Rattle.ir_core.specs.Tokens.{HasTokens, AreWithin, IsWithin}
 use Rattle.ir_core.specs.Lines.{IsDropped}
 use Rattle.ir_parse_top.specs.Text.{Line, moved, all_moved}
-use Rattle.ir_parse_top.specs.Reading.{Left, lines_left, Takes, AddsTokens, Goes, IsPassed, Passes, FindsText}
+use Rattle.ir_parse_top.specs.Reading.{Left, lines_left, Takes, AddsTokens, Goes, IsPassed, Passes, FindsText, FindsNothing}
 
 pub all_append : {X : Type 0} (P : X → Type 0) (xs ys : List X) → AllByRecursion P xs → AllByRecursion P ys → AllByRecursion P (xs ++ ys)
 all_append P [] ys a b = b
@@ -104,3 +104,14 @@ finds_text place old middle new line number before after none p t kept adds some
     in_text = subst (λ (bytes : List ℕ). line.at + length line.bytes ≤ length bytes) p.goes.text t.within
     length_is : length after ≡ length adds.own
     length_is = ap length joined ∙ length-map adds.own (moved line.at)
+
+pub finds_nothing : (place : LinePlace) (old middle new : Left) → Passes place old middle → lines_left middle ≡ [] → new ≡ middle → FindsNothing place old new
+finds_nothing place old middle new p none same = record {
+  passed = subst (λ (ls : List Line). AllByRecursion (IsPassed place) ls) (sym all) p.passed;
+  text = ap (λ (l : Left). l.text) same ∙ p.goes.text;
+  number = ap (λ (l : Left). l.number) same ∙ p.goes.number ∙ ap (λ (ls : List Line). old.number + length ls) (sym all);
+  over = ap lines_left same ∙ none;
+}
+  where
+    all : lines_left old ≡ p.used
+    all = p.goes.lines ∙ ap (λ (ls : List Line). p.used ++ ls) none ∙ append-nil p.used

@@ -9,7 +9,7 @@ use Rattle.ir_core.specs.Lines.{lines_of, IsDropped}
 use Rattle.ir_core.specs.declared.text.LinePlace.{LinePlace}
 use Rattle.ir_grammar.specs.declared.trees.TopLine.{TopLine}
 use Rattle.ir_grammar.specs.declared.trees.BodyLine.{BodyLine}
-use Rattle.ir_grammar.specs.Parts.{IsUnfit}
+use Rattle.ir_grammar.specs.Fitting.{IsLine, IsUnfit}
 use Rattle.ir_grammar.specs.Tokens.{tokens_of, is_punct, close_bracket}
 use Rattle.ir_grammar.specs.Top.{body_line}
 use Rattle.ir_parse_top.specs.Sheet.{Sheet, Outside, Inside, with_top, with_body}
@@ -84,9 +84,12 @@ pub record FindsText (place : LinePlace) (old new : Left) (number : ℕ) (tokens
   pub within : AreWithin (length old.text) tokens
   pub few : length tokens < new.at
 
--- no line says anything at this place
-abbrev pub FindsNothing : LinePlace → Left → Type 0
-FindsNothing place old = AllByRecursion (IsPassed place) (lines_left old)
+-- No line says anything at this place, and all have been taken.
+pub record FindsNothing (place : LinePlace) (old new : Left) : Type 0 where
+  pub passed : AllByRecursion (IsPassed place) (lines_left old)
+  pub text : new.text ≡ old.text
+  pub number : new.number ≡ old.number + length (lines_left old)
+  pub over : lines_left new ≡ []
 
 -- Behind lines that say nothing at this place there is one with a bad byte, line n.
 pub record FindsBad (place : LinePlace) (old : Left) (n : ℕ) (fault : Fault) : Type 0 where
@@ -183,10 +186,16 @@ pub record GrowsBy (old new : Left) (before after : List Token) : Type 0 where
   pub joined : after ≡ before ++ all_moved line.at own
   pub sound : AreSound new after
 
+-- how many lines were taken at a pause
+abbrev pub taken : Pause → ℕ
+taken Closed = 1
+taken (AtColumn column) = 1
+taken AtEnd = 0
+
 -- The lines went on to a pause.
 pub record ComesTo (old new : Left) (before after : List Token) (pause : Pause) : Type 0 where
   pub pauses : Pauses old.text before after (lines_left old) (lines_left new) pause
-  pub number : old.number ≤ new.number
+  pub number : new.number ≡ old.number + taken pause
   pub within : AreWithin (length old.text) after
 
 -- Lines of an unclosed `switch` have been taken, up to a pause.
@@ -197,7 +206,7 @@ pub record Gathers (old new : Left) (tokens all : List Token) (counts : List ℕ
   pub lines : lines_left old ≡ used ++ behind
   pub grows : Grows old.text tokens used kept counts
   pub pauses : Pauses old.text kept all behind (lines_left new) pause
-  pub number : old.number + length counts ≤ new.number + 1
+  pub number : new.number + 1 ≡ old.number + length counts + taken pause
   pub within : AreWithin (length old.text) all
 
 -- what is wrong where tokens end at a pause
@@ -215,4 +224,4 @@ count_until k counts = prefix_len (λ n. nat_le n k) counts
 pub data Blames (text : List ℕ) (number : ℕ) (tokens : List Token) (counts : List ℕ) (pause : Pause) (n : ℕ) (fault : Fault) : Type 0 where
   Early : (k : ℕ) → k < length tokens → IsUnfit body_line.means (tokens_of text tokens) k → n ≡ number + count_until k counts → fault ≡ word_at text tokens k → Blames text number tokens counts pause n fault
   Late : IsUnfit body_line.means (tokens_of text tokens) (length tokens) → n ≡ number + length counts → fault ≡ fault_at pause → Blames text number tokens counts pause n fault
-  Whole : (line : BodyLine) → body_line.means (tokens_of text tokens) line → (pause ≡ Closed → ⊥) → Blames text number tokens counts pause n fault
+  Whole : (line : BodyLine) → IsLine body_line.means (tokens_of text tokens) line → (pause ≡ Closed → ⊥) → Blames text number tokens counts pause n fault

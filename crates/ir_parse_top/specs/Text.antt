@@ -14,7 +14,8 @@ use Rattle.ir_core.specs.Tokens.{HasTokens, HasBadColumn}
 use Rattle.ir_core.specs.Lines.{lines_of, IsDropped}
 use Rattle.ir_grammar.specs.declared.trees.TopLine.{TopLine}
 use Rattle.ir_grammar.specs.declared.trees.BodyLine.{BodyLine}
-use Rattle.ir_grammar.specs.Parts.{Tok, IsUnfit, heads}
+use Rattle.ir_grammar.specs.Parts.{Tok, heads}
+use Rattle.ir_grammar.specs.Fitting.{IsLine, IsUnfit}
 use Rattle.ir_grammar.specs.Tokens.{tokens_of, is_word, is_punct, open_bracket, close_bracket}
 use Rattle.ir_grammar.specs.Top.{top_line, body_line}
 use Rattle.ir_numbering.specs.Numbers.{numbered_module}
@@ -67,9 +68,9 @@ pub record GoesOn (text : List ℕ) (tokens : List Token) : Type 0 where
 
 -- The tokens stand for a line behind the sheet, which leads to the next one.
 abbrev pub Says : List ℕ → Sheet → List Token → Sheet → Type 0
-Says text (Outside tree) tokens next = (line : TopLine) × top_line.means (tokens_of text tokens) line × (next ≡ with_top text tree line)
+Says text (Outside tree) tokens next = (line : TopLine) × IsLine top_line.means (tokens_of text tokens) line × (next ≡ with_top text tree line)
 Says text (Inside tree f entry pending) tokens next =
-    ((line : BodyLine) × body_line.means (tokens_of text tokens) line × (next ≡ with_body tree f entry line))
+    ((line : BodyLine) × IsLine body_line.means (tokens_of text tokens) line × (next ≡ with_body tree f entry line))
     ⊎ (GoesOn text tokens × (next ≡ Inside tree f entry tokens))
 
 -- The line is neither dropped nor without tokens, and these, behind those of an unclosed `switch`, are all tokens.

@@ -1,5 +1,5 @@
 //! The lines of a text, one after another, and their tokens.
-ghost use Rattle.std.specs.Prelude.{◌≡◌, ◌≤◌, ◌+◌, ◌++◌, ◌<◌, ℕ, [], length, IfSome, IfNone, OnOk, IsErrOf};
+ghost use Rattle.std.specs.Prelude.{◌≡◌, ◌≤◌, ◌+◌, ◌++◌, ◌<◌, ◌^◌, ℕ, [], length, IfSome, IfNone, OnOk, IsErrOf};
 ghost use Rattle.std.specs.List.{AllByRecursion};
 ghost use Rattle.ir_core.specs.Tokens.{HasBadColumn, IsWithin};
 ghost use Rattle.ir_lex.specs.declared.lex.LexError.TheVariants.{BadByte};
@@ -53,6 +53,7 @@ impl<'a> Lines<'a> {
     pub fn text(&self) -> &'a [u8]
         ensures text { result.now ≡ self.now.text }
         ensures short { length self.now.text ≤ 4194304 }
+        ensures few { self.now.number < 2 ^ 32 }
     {
         self.text
     }

@@ -86,7 +86,7 @@ fn another(reader: &mut Reader) -> Result<bool, Stop>
 fn declared_param(reader: &mut Reader) -> Result<(Ty, bool), Stop>
     ensures { Gave result reader.new (declared_param.reads reader.old) }
 {
-    let ty = reader.typ(63)?;
+    let ty = reader.any_type()?;
     reader.attributes(false)?;
     let more = another(reader)?;
     Ok((ty, more))
@@ -109,7 +109,7 @@ fn param_name(reader: &mut Reader) -> Result<(Option<Loc>, bool), Stop>
 fn defined_param(reader: &mut Reader) -> Result<((Ty, Option<Loc>), bool), Stop>
     ensures { Gave result reader.new (defined_param.reads reader.old) }
 {
-    let ty = reader.typ(63)?;
+    let ty = reader.any_type()?;
     reader.attributes(false)?;
     let (name, more) = param_name(reader)?;
     Ok(((ty, name), more))
@@ -173,7 +173,7 @@ fn declare_line(reader: &mut Reader) -> Result<TopLine, Stop>
     ensures { Gave result reader.new (declare_line.reads reader.old) }
 {
     reader.attributes(true)?;
-    let ret = reader.result_type(63)?;
+    let ret = reader.result_type()?;
     let sym = reader.symbol()?;
     let params = declared_params(reader)?;
     behind_params(reader)?;
@@ -186,7 +186,7 @@ fn define_line(reader: &mut Reader) -> Result<TopLine, Stop>
     ensures { Gave result reader.new (define_line.reads reader.old) }
 {
     reader.attributes(true)?;
-    let ret = reader.result_type(63)?;
+    let ret = reader.result_type()?;
     let sym = reader.symbol()?;
     let params = defined_params(reader)?;
     behind_params(reader)?;

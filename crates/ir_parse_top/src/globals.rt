@@ -10,7 +10,7 @@ ghost use Rattle.std.specs.Option.{is_some};
 use crate::initialisers::init;
 use ir_core::{GlobalVar, Ty, TypeId};
 use ir_grammar::TopLine;
-use ir_parse_parts::{Reader, Stop, linkage_word, word_table};
+use ir_parse_parts::{ANY_DEPTH, Reader, Stop, linkage_word, word_table};
 
 /// The line, where it ends here.
 pub(crate) fn ended(reader: &mut Reader, line: TopLine) -> Result<TopLine, Stop>
@@ -34,7 +34,7 @@ pub(crate) fn type_line(reader: &mut Reader) -> Result<TopLine, Stop>
     reader.punct(b'=')?;
     reader.keyword(b"type")?;
     reader.punct(b'{')?;
-    let parts = reader.type_list(63)?;
+    let parts = reader.types()?;
     ended(reader, TopLine::Type(TypeId(name.0), Ty::Struct(parts)))
 }
 
@@ -86,7 +86,7 @@ pub(crate) fn global_line(reader: &mut Reader) -> Result<TopLine, Stop>
     linkage(reader);
     let found = reader.word().and_then(global_word);
     reader.take(found)?;
-    let ty = reader.typ(64)?;
-    let init = init(reader, &ty, 64)?;
+    let ty = reader.any_type()?;
+    let init = init(reader, &ty, ANY_DEPTH)?;
     global_ended(reader, GlobalVar { sym, ty, init })
 }

@@ -2,7 +2,7 @@
 ghost use Rattle.std.specs.Prelude.{◌≡◌, IfOk, [], ◌∷◌};
 ghost use Rattle.std.specs.Option.{option_and_then};
 ghost use Rattle.ir_core.specs.Strings.{string_bytes, between_quotes};
-ghost use Rattle.ir_grammar.specs.Types.{typ, listed, more_listed};
+ghost use Rattle.ir_grammar.specs.Types.{listed, more_listed};
 ghost use Rattle.ir_grammar.specs.Top.{of_value, bytes_in, is_string, zero_or, parts_of, init_head, whole_init, flat_init, typed_init, init_rest, init};
 ghost use Rattle.ir_grammar.specs.Parts.{taken};
 ghost use Rattle.ir_grammar.specs.Values.{constant_head};
@@ -119,7 +119,7 @@ fn flat_init(reader: &mut Reader, head: InitHead, text: &[u8]) -> Result<Init, S
     reader.take(found)
 }
 
-/// An initialiser of the type, with so many brackets at most that stand open in it at once.
+/// An initialiser of the type, with so many lists of parts at most inside one another.
 #[cycle(inits)]
 #[tactic(auto, unfolding(ir_grammar::specs::Top::init))]
 pub(crate) fn init(reader: &mut Reader, ty: &Ty, brackets: u32) -> Result<Init, Stop>
@@ -141,7 +141,7 @@ pub(crate) fn init(reader: &mut Reader, ty: &Ty, brackets: u32) -> Result<Init, 
 /// The rest of an initialiser behind its first token.
 #[cycle(inits)]
 fn init_rest(reader: &mut Reader, head: InitHead, text: &[u8], inner: u32) -> Result<Init, Stop>
-    ensures { Gave result reader.new ((init_rest inner (init inner) text.now head).reads reader.old) }
+    ensures { Gave result reader.new ((init_rest (init inner) text.now head).reads reader.old) }
 {
     match head {
         InitHead::Zero => Ok(Init::Zero),
@@ -149,7 +149,7 @@ fn init_rest(reader: &mut Reader, head: InitHead, text: &[u8], inner: u32) -> Re
         InitHead::Null => Ok(Init::Null),
         InitHead::Addr(sym) => Ok(Init::Addr(sym)),
         InitHead::Bytes => Ok(Init::Bytes(bytes(reader.alloc(), text)?)),
-        InitHead::Gep => Ok(Init::Gep(reader.const_gep(inner)?)),
+        InitHead::Gep => Ok(Init::Gep(reader.const_gep()?)),
         InitHead::Array => Ok(Init::Parts(parts(reader, inner, b']')?)),
         InitHead::Struct => Ok(Init::Parts(parts(reader, inner, b'}')?)),
     }
@@ -158,9 +158,9 @@ fn init_rest(reader: &mut Reader, head: InitHead, text: &[u8], inner: u32) -> Re
 /// A type and an initialiser of it.
 #[cycle(inits)]
 fn typed(reader: &mut Reader, inner: u32) -> Result<(Ty, Init), Stop>
-    ensures { Gave result reader.new ((typed_init (typ inner) (init inner)).reads reader.old) }
+    ensures { Gave result reader.new ((typed_init (init inner)).reads reader.old) }
 {
-    let ty = reader.typ(inner)?;
+    let ty = reader.any_type()?;
     let init = init(reader, &ty, inner)?;
     Ok((ty, init))
 }
@@ -169,7 +169,7 @@ fn typed(reader: &mut Reader, inner: u32) -> Result<(Ty, Init), Stop>
 #[cycle(inits)]
 fn parts(reader: &mut Reader, inner: u32, close: u8) -> Result<Inits, Stop>
     ensures { Gave result reader.new
-        ((listed close (typed_init (typ inner) (init inner))).reads reader.old) }
+        ((listed close (typed_init (init inner))).reads reader.old) }
 {
     let mut parts = Seq::new(reader.alloc());
     if reader.at_punct(close) {
@@ -185,7 +185,7 @@ fn parts(reader: &mut Reader, inner: u32, close: u8) -> Result<Inits, Stop>
 #[cycle(inits)]
 fn more_parts(reader: &mut Reader, parts: &mut Inits, inner: u32) -> Result<(), Stop>
     ensures { Filled result parts.new reader.new
-        ((more_listed parts.old (typed_init (typ inner) (init inner))).reads reader.old) }
+        ((more_listed parts.old (typed_init (init inner))).reads reader.old) }
 {
     'more: while reader.at_punct(b',') {
         reader.punct(b',')?;

@@ -12,10 +12,11 @@ mod errors;
 mod functions;
 mod globals;
 mod initialisers;
+mod inside;
 mod lines;
 mod outside;
 mod passing;
 mod switches;
 
 pub use errors::ParseError;
-pub use lines::{LineError, read_body_line, read_top_line};
+pub use lines::{read_body_line, read_top_line};

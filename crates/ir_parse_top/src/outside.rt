@@ -2,7 +2,7 @@
 ghost use Rattle.std.specs.Prelude.{◌≡◌, ◌≤◌, ℕ, length, IfOk, IfErr, IfSome, IfNone};
 ghost use Rattle.ir_core.specs.Tokens.{AreWithin};
 ghost use Rattle.ir_core.specs.declared.text.LinePlace.TheVariants.{Top};
-ghost use Rattle.ir_grammar.specs.Parts.{IsUnfit};
+ghost use Rattle.ir_grammar.specs.Fitting.{IsLine, IsUnfit};
 ghost use Rattle.ir_grammar.specs.Tokens.{tokens_of};
 ghost use Rattle.ir_grammar.specs.Top.{top_line};
 ghost use Rattle.ir_parse_top.specs.Text.{word_at};
@@ -11,9 +11,10 @@ ghost use Rattle.ir_parse_top.specs.Reading.{FindsTop, FindsNothing, TripsOutsid
 use crate::cursor::Lines;
 use crate::errors::refused_at;
 use crate::passing::next_text;
-use crate::{LineError, ParseError, read_top_line};
+use crate::{ParseError, read_top_line};
 use ir_core::{LinePlace, Token};
 use ir_grammar::TopLine;
+use ir_parse_parts::LineError;
 use std::alloc::Global;
 
 /// What the tokens of a line outside functions stand for.
@@ -25,7 +26,7 @@ fn top_of(
 ) -> Result<TopLine, ParseError>
     requires short { length text.now ≤ 4194304 }
     requires within { AreWithin (length text.now) tokens.now }
-    ensures line { IfOk result (top_line.means (tokens_of text.now tokens.now)) }
+    ensures line { IfOk result (IsLine top_line.means (tokens_of text.now tokens.now)) }
     ensures err { IfErr result (Told (λ n fault.
         (n ≡ number)
         × ((k : ℕ)
@@ -42,7 +43,7 @@ fn top_of(
 /// What the next line outside functions says; nothing where none says anything.
 pub(crate) fn next_top(alloc: Global, lines: &mut Lines) -> Result<Option<TopLine>, ParseError>
     ensures found { IfOk result (λ found. IfSome found (FindsTop lines.old lines.new)) }
-    ensures nothing { IfOk result (λ found. IfNone found (FindsNothing Top lines.old)) }
+    ensures nothing { IfOk result (λ found. IfNone found (FindsNothing Top lines.old lines.new)) }
     ensures err { IfErr result (Told (TripsOutside lines.old)) }
 {
     let mut tokens = Vec::new(alloc);

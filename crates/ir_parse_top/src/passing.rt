@@ -39,7 +39,7 @@ pub(crate) fn next_text(
 ) -> Result<Option<u32>, ParseError>
     requires { tokens.old.items ≡ [] }
     ensures found { IfOk result (λ found. IfSome found (λ number. FindsText place lines.old lines.new number tokens.new.items)) }
-    ensures nothing { IfOk result (λ found. IfNone found (FindsNothing place lines.old)) }
+    ensures nothing { IfOk result (λ found. IfNone found (FindsNothing place lines.old lines.new)) }
     ensures err { IfErr result (Told (FindsBad place lines.old)) }
 {
     'lines: while let Some(line) = lines.next() {

@@ -1,8 +1,11 @@
 //! The tokens of a `switch` over several lines (LLVM Language Reference, 'switch Instruction').
-ghost use Rattle.std.specs.Prelude.{◌≡◌, ◌≤◌, ◌+◌, ◌<◌, ◌^◌, ◌&&◌, not, [], length, codes, nat_le, IfOk, IfErr, IfSome, IfNone};
-ghost use Rattle.std.specs.List.{list_any, prefix_len};
-ghost use Rattle.ir_core.specs.Tokens.{AreWithin};
-ghost use Rattle.ir_grammar.specs.Tokens.{tokens_of, is_punct};
+ghost use Rattle.std.specs.Prelude.{◌≡◌, ◌≤◌, ◌+◌, ◌<◌, ◌^◌, [], length, codes, IfOk, IfErr, IfSome, IfNone};
+ghost use Rattle.std.specs.List.{list_any, AllByRecursion};
+ghost use Rattle.ir_core.specs.Tokens.{AreWithin, IsWithin};
+ghost use Rattle.ir_grammar.specs.Parts.{heads};
+ghost use Rattle.ir_grammar.specs.Tokens.{token_of, tokens_of, is_punct, is_word};
+ghost use Rattle.ir_parse_parts.specs.Views.{tok_view};
+ghost use Rattle.ir_grammar.specs.Fitting.{IsLine};
 ghost use Rattle.ir_grammar.specs.Top.{body_line};
 ghost use Rattle.ir_parse_top.specs.Text.{is_unclosed};
 ghost use Rattle.ir_parse_top.specs.Text as texts;
@@ -11,11 +14,11 @@ ghost use Rattle.ir_parse_top.specs.declared.switches.Pause.TheVariants as pause
 
 use crate::cursor::{Lines, add_tokens};
 use crate::errors::{refused, refused_at};
-use crate::{LineError, ParseError, read_body_line};
+use crate::{ParseError, read_body_line};
 use ir_core::Token;
 use ir_grammar::BodyLine;
 use ir_lex::LexError;
-use ir_parse_parts::Reader;
+use ir_parse_parts::{LineError, Tok};
 use std::alloc::{AllocError, Global};
 
 /// Why no more tokens of a `switch` were taken.
@@ -29,28 +32,54 @@ pub(crate) enum Pause {
     AtEnd,
 }
 
-/// Whether one of the tokens is this punctuation.
-fn has_punct(alloc: Global, text: &[u8], tokens: &[Token], byte: u8) -> bool
+/// A token of the text with its own text.
+fn token_of<'a>(text: &'a [u8], token: &Token) -> Tok<'a>
     requires short { length text.now ≤ 4194304 }
-    requires within { AreWithin (length text.now) tokens.now }
+    requires within { IsWithin (length text.now) token.now }
+    ensures { tok_view result ≡ token_of text.now token.now }
+{
+    Tok {
+        kind: token.kind,
+        text: &text[token.start as usize..token.end as usize],
+        at: token.start,
+    }
+}
+
+/// Whether one of the tokens is this punctuation.
+fn has_punct(text: &[u8], tokens: &[Token], byte: u8) -> bool
+    requires short { length text.now ≤ 4194304 }
+    requires within { AllByRecursion (IsWithin (length text.now)) tokens.now }
     ensures { result ≡ list_any (is_punct byte) (tokens_of text.now tokens.now) }
 {
-    let mut left = Reader::new(alloc, text, tokens);
-    'tokens: while left.at_other(byte) {
-        left.skip();
+    let mut left = tokens;
+    'tokens: while let [token, rest @ ..] = left {
+        if token_of(text, token).is_punct(byte) {
+            return true;
+        }
+        left = rest;
     }
-    left.at_punct(byte)
+    false
+}
+
+/// Whether the first token is the word `switch`.
+fn at_switch(text: &[u8], tokens: &[Token]) -> bool
+    requires short { length text.now ≤ 4194304 }
+    requires within { AllByRecursion (IsWithin (length text.now)) tokens.now }
+    ensures { result ≡ heads (is_word (codes "switch")) (tokens_of text.now tokens.now) }
+{
+    match tokens {
+        [token, ..] => token_of(text, token).is_word(b"switch"),
+        [] => false,
+    }
 }
 
 /// Whether the tokens begin a `switch` and its brackets, and don't close them.
-pub(crate) fn is_unclosed(alloc: Global, text: &[u8], tokens: &[Token]) -> bool
+pub(crate) fn is_unclosed(text: &[u8], tokens: &[Token]) -> bool
     requires short { length text.now ≤ 4194304 }
-    requires within { AreWithin (length text.now) tokens.now }
+    requires within { AllByRecursion (IsWithin (length text.now)) tokens.now }
     ensures { result ≡ is_unclosed (tokens_of text.now tokens.now) }
 {
-    Reader::new(alloc, text, tokens).at_word(b"switch")
-        && has_punct(alloc, text, tokens, b'[')
-        && !has_punct(alloc, text, tokens, b']')
+    at_switch(text, tokens) && has_punct(text, tokens, b'[') && !has_punct(text, tokens, b']')
 }
 
 /// Takes one more line of a `switch`, and its tokens. Tells the pause, where there is one.
@@ -76,7 +105,7 @@ fn gather_line(
         Err(LexError::BadByte(column)) => return Ok(Some(Pause::AtColumn(column))),
         Err(LexError::NoMemory) => return Err(AllocError),
     }
-    if has_punct(alloc, lines.text(), &tokens.as_slice()[count..], b']') {
+    if has_punct(lines.text(), &tokens.as_slice()[count..], b']') {
         return Ok(Some(Pause::Closed));
     }
     Ok(None)
@@ -84,7 +113,7 @@ fn gather_line(
 
 /// Takes the lines of a `switch` up to a pause, with their tokens. The counts are how many of these there were before
 /// each of the lines.
-fn gather(
+pub(crate) fn gather(
     alloc: Global,
     lines: &mut Lines,
     tokens: &mut Vec<Token>,
@@ -121,7 +150,7 @@ fn paused(alloc: Global, line: u32, pause: Pause) -> ParseError
 }
 
 /// The line that the tokens of a `switch` stand for, whose first line has this number.
-fn judge(
+pub(crate) fn judge(
     alloc: Global,
     text: &[u8],
     number: u32,
@@ -133,7 +162,7 @@ fn judge(
     requires within { AreWithin (length text.now) tokens.now }
     requires small { number + length counts.now < 2 ^ 32 }
     ensures line { IfOk result (λ line.
-        body_line.means (tokens_of text.now tokens.now) line × (pause ≡ pauses.Closed)) }
+        IsLine body_line.means (tokens_of text.now tokens.now) line × (pause ≡ pauses.Closed)) }
     ensures err { IfErr result (Told (Blames text.now number tokens.now counts.now pause)) }
 {
     match read_body_line(alloc, text, tokens) {

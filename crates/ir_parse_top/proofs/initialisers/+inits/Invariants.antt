@@ -1,5 +1,5 @@
 use Rattle.std.proofs.Common.{◌≡◌, ◌+◌, ◌*◌, length}
-use Rattle.ir_grammar.specs.Types.{typ, more_listed}
+use Rattle.ir_grammar.specs.Types.{more_listed}
 use Rattle.ir_grammar.specs.Top.{typed_init, init}
 use Rattle.ir_parse_top.proofs.initialisers.+inits.Given as goal
 
@@ -20,7 +20,7 @@ decreases-typed l = 5 * l.inner + 1
 
 -- the initialisers so far and those that are read of the rest are all
 abbrev pub invariant-more_parts-more : goal.invariant-more_parts-more
-invariant-more_parts-more l = (more_listed l.parts (typed_init (typ l.inner) (init l.inner))).reads l.reader ≡ (more_listed l.initial.parts (typed_init (typ l.inner) (init l.inner))).reads l.initial.reader
+invariant-more_parts-more l = (more_listed l.parts (typed_init (init l.inner))).reads l.reader ≡ (more_listed l.initial.parts (typed_init (init l.inner))).reads l.initial.reader
 
 abbrev pub decreases-more_parts-more : goal.decreases-more_parts-more
 decreases-more_parts-more l = length l.reader

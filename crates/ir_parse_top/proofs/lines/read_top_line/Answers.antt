@@ -1,22 +1,12 @@
-use Rattle.std.proofs.Common.{◌≡◌, ◌-◌, ◌∙◌, Err, length, sym, ap, subst, arith}
-use Rattle.ir_grammar.specs.Parts.{IsUnfit}
-use Rattle.ir_grammar.specs.Tokens.{tokens_of}
-use Rattle.ir_grammar.specs.Top.{top_line}
 use Rattle.ir_grammar.proofs.TopLaws.{top_line_law}
-use Rattle.ir_grammar.proofs.Lines.{read_meant, unfit_read, left_within, same_length}
+use Rattle.ir_parse_parts.proofs.WholeLines.{within, stands_for, unfit_at}
 use Rattle.ir_parse_top.proofs.lines.read_top_line.Goals as goal
 
-pub overflow_sub-result : goal.overflow_sub-result
-overflow_sub-result c =
-    let read : top_line.reads (tokens_of c.args.line.now c.args.tokens.now) ≡ Err c.in-Err-Unfit.left = ap top_line.reads (sym c.new-reader.ensures) ∙ (rw c.in-Err-Unfit.field-0-is at c.in-Err-Unfit.ensures) in
-    omega (arith, left_within top_line_law (tokens_of c.args.line.now c.args.tokens.now) c.in-Err-Unfit.left read, same_length c.args.line.now c.args.tokens.now)
+pub answered-requires : goal.answered-requires
+answered-requires c = within top_line_law c.args.line.now c.args.tokens.now c.new-reader.result c.top_line.result c.top_line.new.reader c.len-fitting.result c.new-reader.ensures c.len-fitting.ensures c.top_line.ensures
 
-pub returns-in-Ok-clause-line : goal.returns-in-Ok-clause-line
-returns-in-Ok-clause-line c = read_meant top_line_law (tokens_of c.args.line.now c.args.tokens.now) c.top_line.new.reader c.in-Ok.line (ap top_line.reads (sym c.new-reader.ensures) ∙ c.in-Ok.ensures)
+pub returns-clause-line : goal.returns-clause-line
+returns-clause-line c = stands_for top_line_law c.args.line.now c.args.tokens.now c.new-reader.result c.top_line.result c.top_line.new.reader c.len-fitting.result c.new-reader.ensures c.len-fitting.ensures c.top_line.ensures c.answered.result c.answered.ensures
 
-pub returns-in-Err-Unfit-clause-unfit : goal.returns-in-Err-Unfit-clause-unfit
-returns-in-Err-Unfit-clause-unfit c =
-    let ts = tokens_of c.args.line.now c.args.tokens.now in
-    let read : top_line.reads ts ≡ Err c.in-Err-Unfit.left = ap top_line.reads (sym c.new-reader.ensures) ∙ (rw c.in-Err-Unfit.field-0-is at c.in-Err-Unfit.ensures) in
-    let unfit : IsUnfit top_line.means ts (length c.args.tokens.now - c.in-Err-Unfit.left) = subst (λ n. IsUnfit top_line.means ts (n - c.in-Err-Unfit.left)) (same_length c.args.line.now c.args.tokens.now) (unfit_read top_line_law ts c.in-Err-Unfit.left read) in
-    λ j e. let same : length c.args.tokens.now - c.in-Err-Unfit.left ≡ j = cc in subst (λ n. IsUnfit top_line.means ts n) same unfit
+pub returns-clause-unfit : goal.returns-clause-unfit
+returns-clause-unfit c = unfit_at top_line_law c.args.line.now c.args.tokens.now c.new-reader.result c.top_line.result c.top_line.new.reader c.len-fitting.result c.new-reader.ensures c.len-fitting.ensures c.top_line.ensures c.answered.result c.answered.ensures

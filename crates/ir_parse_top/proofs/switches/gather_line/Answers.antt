@@ -15,7 +15,7 @@ returns-in_default-clause-over c =
 pub returns-in-Err-BadByte-clause-over : goal.returns-in-Err-BadByte-clause-over
 returns-in-Err-BadByte-clause-over c =
     let e = c.in-Err-BadByte.ensures.bad c.in-Err-BadByte.column (ap Err c.in-Err-BadByte.field-0-is) in
-    rw c.in-Err-BadByte.field-0-is (comes_to_column c.args.lines.now c.next.new.self _ _ c.in-Err-BadByte.column c.args.tokens.now.items c.add_tokens.new.all.items c.in-Some.ensures.some c.requires.sound e.0 e.1)
+    (comes_to_column c.args.lines.now c.next.new.self _ _ c.in-Err-BadByte.column c.args.tokens.now.items c.add_tokens.new.all.items c.in-Some.ensures.some c.requires.sound e.0 e.1)
 
 pub has_punct-requires-clause-within : goal.has_punct-requires-clause-within
 has_punct-requires-clause-within c =
