@@ -1,7 +1,7 @@
 -- Lines with tokens, and what was made of these.
 use Rattle.std.specs.Prelude.{codes}
-use Rattle.std.proofs.Common.{◌≡◌, ℕ, ◌+◌, Bool, true, false, inl, List, [], ◌∷◌, ◌++◌, length, ap, refl, sym, subst, ◌∙◌}
-use Rattle.std.proofs.lemmas.List.{append-nil}
+use Rattle.std.proofs.Common.{◌≡◌, ℕ, ◌+◌, Bool, true, false, inl, List, [], ◌∷◌, ◌++◌, length, ap, refl, sym, subst, ◌∙◌, ◌<◌, arith}
+use Rattle.std.proofs.lemmas.List.{append-nil, length-append}
 use Rattle.ir_core.specs.declared.text.Token.{Token}
 use Rattle.ir_core.specs.declared.text.LinePlace.TheVariants.{Top, Function}
 use Rattle.ir_core.specs.declared.types.Loc.{Loc}
@@ -29,6 +29,7 @@ module _ (old new : Left) (number : ℕ) (tokens taken : List Token) (text : Lis
   top_found line f means = record {
     used = f.used ++ f.line ∷ [];
     goes = f.goes;
+    ahead = (let e : length (f.used ++ f.line ∷ []) ≡ length f.used + 1 = length-append f.used (f.line ∷ []) in omega (arith, e));
     run = λ tree. text_leads Top (Outside tree) refl refl old new number tokens (with_top old.text tree line) f (line, means_again, refl);
   }
     where
@@ -44,6 +45,7 @@ module _ (old new : Left) (number : ℕ) (tokens taken : List Token) (text : Lis
   body_found line f means = record {
     used = f.used ++ f.line ∷ [];
     goes = f.goes;
+    ahead = (let e : length (f.used ++ f.line ∷ []) ≡ length f.used + 1 = length-append f.used (f.line ∷ []) in omega (arith, e));
     run = λ tree fn entry. text_leads Function (Inside tree fn entry []) refl refl old new number tokens (with_body tree fn entry line) f (inl (line, means_again, refl));
   }
     where

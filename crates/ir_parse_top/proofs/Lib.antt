@@ -8,3 +8,5 @@ mod Unfit
 mod Unclosed
 mod Groups
 mod SwitchLines
+mod FunctionLines
+mod TreeLines

@@ -95,6 +95,7 @@ module _ (old middle new : Left) (number : ℕ) (tokens all : List Token) (count
          let u : length (g.used ++ p.0 ∷ []) ≡ length g.used + 1 = length-append g.used (p.0 ∷ []) in
          let r : new.number ≡ middle.number + length (g.used ++ p.0 ∷ []) = omega (arith, n, one, c, u) in r);
     });
+    ahead = (let a : length ((f.used ++ f.line ∷ []) ++ (g.used ++ p.0 ∷ [])) ≡ length (f.used ++ f.line ∷ []) + length (g.used ++ p.0 ∷ []) = length-append (f.used ++ f.line ∷ []) (g.used ++ p.0 ∷ []) in let b : length (f.used ++ f.line ∷ []) ≡ length f.used + 1 = length-append f.used (f.line ∷ []) in omega (arith, a, b));
     run = λ tree fn entry.
       subst (λ (ls : List Line). Run old.text (Inside tree fn entry []) ls (with_body tree fn entry line)) (append_assoc (f.used ++ f.line ∷ []) g.used (p.0 ∷ []))
         (run_append old.text (Inside tree fn entry []) (behind old.text tree fn entry g.kept) (with_body tree fn entry line) ((f.used ++ f.line ∷ []) ++ g.used) (p.0 ∷ []) (run_kept tree fn entry fits)

@@ -108,12 +108,14 @@ pub record FindsBad (place : LinePlace) (old : Left) (n : ℕ) (fault : Fault) :
 pub record FindsTop (old new : Left) (line : TopLine) : Type 0 where
   pub used : List Line
   pub goes : Goes used old new
+  pub ahead : 0 < length used
   pub run : (tree : ModuleParts) → Run old.text (Outside tree) used (with_top old.text tree line)
 
 -- Lines have been taken, and inside any function they lead past a line of it.
 pub record FindsBody (old new : Left) (line : BodyLine) : Type 0 where
   pub used : List Line
   pub goes : Goes used old new
+  pub ahead : 0 < length used
   pub run : (tree : ModuleParts) (f : FuncParts) (entry : Loc) → Run old.text (Inside tree f entry []) used (with_body tree f entry line)
 
 -- Lines have been taken, and they lead past the end of the function.
@@ -122,11 +124,20 @@ pub record FindsEnd (old new : Left) (f : FuncParts) (entry : Loc) (whole : Func
   pub goes : Goes used old new
   pub run : (tree : ModuleParts) → Run old.text (Inside tree f entry []) used (Outside (record tree { funcs = tree.funcs ++ whole ∷ [] }))
 
--- Lines have been taken, and they lead from one tree to the other.
-pub record FindsTree (old new : Left) (before after : ModuleParts) : Type 0 where
+-- Lines have been taken, and behind a line outside functions they lead to the tree.
+pub record Follows (old new : Left) (before : ModuleParts) (line : TopLine) (after : ModuleParts) : Type 0 where
   pub used : List Line
   pub goes : Goes used old new
-  pub run : Run old.text (Outside before) used (Outside after)
+  pub run : Run old.text (with_top old.text before line) used (Outside after)
+
+-- All lines that were left lead from one tree to the other.
+abbrev pub FindsAll : Left → ModuleParts → ModuleParts → Type 0
+FindsAll old before after = Run old.text (Outside before) (lines_left old) (Outside after)
+
+-- what has been read behind a line inside a function, by whether it ended that one
+abbrev pub sheet_behind : Bool → ModuleParts → FuncParts → Loc → Sheet
+sheet_behind true tree f entry = Outside (record tree { funcs = tree.funcs ++ f ∷ [] })
+sheet_behind false tree f entry = Inside tree f entry []
 
 -- what an error says of a line; want of memory says nothing
 abbrev pub Told : (ℕ → Fault → Type 0) → ParseError → Type 0
@@ -149,6 +160,10 @@ TripsOutside left n fault = (tree : ModuleParts) → TripsFrom left (Outside tre
 -- the same, whatever has been read in a function
 abbrev pub TripsInside : Left → ℕ → Fault → Type 0
 TripsInside left n fault = (tree : ModuleParts) (f : FuncParts) (entry : Loc) → TripsFrom left (Inside tree f entry []) n fault
+
+-- the same of a function that has been read so far, whatever stands outside
+abbrev pub TripsIn : Left → FuncParts → Loc → ℕ → Fault → Type 0
+TripsIn left f entry n fault = (tree : ModuleParts) → TripsFrom left (Inside tree f entry []) n fault
 
 -- ---- a `switch` over several lines
 

@@ -20,6 +20,7 @@ pub(crate) struct TextLine<'a> {
 }
 
 /// The lines of a text that are left.
+#[derive(Drop)]
 pub(crate) struct Lines<'a> {
     text: &'a [u8],
     at: usize,

@@ -6,6 +6,7 @@
 //! functions together.
 #![tactic(auto)]
 
+mod bodies;
 mod body;
 mod cursor;
 mod errors;
@@ -17,6 +18,8 @@ mod lines;
 mod outside;
 mod passing;
 mod switches;
+mod whole;
 
 pub use errors::ParseError;
 pub use lines::{read_body_line, read_top_line};
+pub use whole::parse_module;
