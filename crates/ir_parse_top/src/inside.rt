@@ -12,9 +12,10 @@ use crate::cursor::Lines;
 use crate::errors::{refused, refused_at};
 use crate::passing::next_text;
 use crate::switches::{gather, is_unclosed, judge};
-use crate::{ParseError, read_body_line};
+use crate::ParseError;
 use ir_core::{LinePlace, Token};
 use ir_grammar::BodyLine;
+use ir_parse_lines::read_body_line;
 use ir_parse_parts::LineError;
 use std::alloc::Global;
 

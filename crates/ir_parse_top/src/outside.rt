@@ -11,9 +11,10 @@ ghost use Rattle.ir_parse_top.specs.Reading.{FindsTop, FindsNothing, TripsOutsid
 use crate::cursor::Lines;
 use crate::errors::refused_at;
 use crate::passing::next_text;
-use crate::{ParseError, read_top_line};
+use crate::ParseError;
 use ir_core::{LinePlace, Token};
 use ir_grammar::TopLine;
+use ir_parse_lines::read_top_line;
 use ir_parse_parts::LineError;
 use std::alloc::Global;
 

@@ -14,10 +14,11 @@ ghost use Rattle.ir_parse_top.specs.declared.switches.Pause.TheVariants as pause
 
 use crate::cursor::{Lines, add_tokens};
 use crate::errors::{refused, refused_at};
-use crate::{ParseError, read_body_line};
+use crate::ParseError;
 use ir_core::Token;
 use ir_grammar::BodyLine;
 use ir_lex::LexError;
+use ir_parse_lines::read_body_line;
 use ir_parse_parts::{LineError, Tok};
 use std::alloc::{AllocError, Global};
 

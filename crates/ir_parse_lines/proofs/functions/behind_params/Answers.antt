@@ -4,7 +4,7 @@ use Rattle.ir_grammar.specs.Top.{tail_head, tail_rest, behind_params}
 use Rattle.ir_grammar.proofs.Turns.{some_head, no_head, rest_taken, skip_more, skip_over, skip_stop}
 use Rattle.ir_grammar.proofs.TopLaws.{behind_turns}
 use Rattle.ir_parse_parts.proofs.Exits.{stopped_then}
-use Rattle.ir_parse_top.proofs.functions.behind_params.Goals as goal
+use Rattle.ir_parse_lines.proofs.functions.behind_params.Goals as goal
 
 pub tails-preserved : goal.tails-preserved
 unfolding behind_params

@@ -3,7 +3,7 @@ use Rattle.std.proofs.lemmas.Result.{err_from_is_err_and}
 use Rattle.ir_grammar.proofs.Chains.{chain_more, chain_over, chain_stop}
 use Rattle.ir_grammar.proofs.TopLaws.{declared_links}
 use Rattle.ir_parse_parts.proofs.Exits.{stopped_then}
-use Rattle.ir_parse_top.proofs.functions.declared_chain.Goals as goal
+use Rattle.ir_parse_lines.proofs.functions.declared_chain.Goals as goal
 
 pub params-preserved : goal.params-preserved
 params-preserved c =

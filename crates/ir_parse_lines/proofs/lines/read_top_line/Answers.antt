@@ -1,6 +1,6 @@
 use Rattle.ir_grammar.proofs.TopLaws.{top_line_law}
 use Rattle.ir_parse_parts.proofs.WholeLines.{within, stands_for, unfit_at}
-use Rattle.ir_parse_top.proofs.lines.read_top_line.Goals as goal
+use Rattle.ir_parse_lines.proofs.lines.read_top_line.Goals as goal
 
 pub answered-requires : goal.answered-requires
 answered-requires c = within top_line_law c.args.line.now c.args.tokens.now c.new-reader.result c.top_line.result c.top_line.new.reader c.len-fitting.result c.new-reader.ensures c.len-fitting.ensures c.top_line.ensures

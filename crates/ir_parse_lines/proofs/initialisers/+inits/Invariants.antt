@@ -1,7 +1,7 @@
 use Rattle.std.proofs.Common.{◌≡◌, ◌+◌, ◌*◌, length}
 use Rattle.ir_grammar.specs.Types.{more_listed}
 use Rattle.ir_grammar.specs.Top.{typed_init, init}
-use Rattle.ir_parse_top.proofs.initialisers.+inits.Given as goal
+use Rattle.ir_parse_lines.proofs.initialisers.+inits.Given as goal
 
 abbrev pub decreases-init : goal.decreases-init
 decreases-init l = 5 * l.brackets

@@ -6,7 +6,7 @@ use Rattle.ir_grammar.specs.declared.heads.AttributeHead.{AttributeHead}
 use Rattle.ir_grammar.specs.Top.{linkage_word, linkage}
 use Rattle.ir_grammar.proofs.Turns.{skip_more, skip_over}
 use Rattle.ir_grammar.proofs.TopLaws.{linkage_turns}
-use Rattle.ir_parse_top.proofs.globals.linkage.Goals as goal
+use Rattle.ir_parse_lines.proofs.globals.linkage.Goals as goal
 
 -- a word of linkage is taken
 taken_word : (ts : List Tok) → heads (λ t. is_some (in_table linkage_word t)) ts ≡ true → (a : AttributeHead) × ((one (in_table linkage_word)).reads ts ≡ Ok (a, drop 1 ts))

@@ -11,7 +11,7 @@ use Rattle.ir_grammar.proofs.TopLaws.{init_law, typed_law}
 use Rattle.ir_parse_parts.specs.Views.{tok_view}
 use Rattle.ir_parse_parts.specs.Reads.{Gave}
 use Rattle.ir_parse_parts.proofs.Exits.{stopped_then}
-use Rattle.ir_parse_top.proofs.initialisers.+inits.Goals as goal
+use Rattle.ir_parse_lines.proofs.initialisers.+inits.Goals as goal
 
 -- a first token that an initialiser begins with, and then the rest of it
 init_step : (b : ℕ) (ty : Ty) (ts : List Tok) (t : Tok) (h : InitHead) → (b ≡ 0 → ⊥) → first ts ≡ Some t → init_head ty t ≡ Some h → (init b ty).reads ts ≡ (init_rest (init (b - 1)) t.text h).reads (drop 1 ts)
