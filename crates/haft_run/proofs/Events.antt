@@ -1,5 +1,5 @@
 -- How many turns an event adds.
-use Rattle.std.proofs.Common.{ℕ, zero, suc, ◌+◌, ◌≤◌, List, [], ◌∷◌, Option, Some, None, true, false, length, length-append, arith, slice_get}
+use Rattle.std.proofs.Common.{ℕ, zero, suc, ◌≡◌, ◌+◌, ◌≤◌, refl, List, [], ◌∷◌, Option, Some, None, true, false, length, length-append, arith, slice_get}
 use Rattle.ir_core.specs.Module.{ModuleParts}
 use Rattle.hard_ir.specs.declared.instruction.HInst.{HInst}
 use Rattle.hard_ir.specs.declared.instruction.HBlock.{HBlock}
@@ -10,7 +10,9 @@ use Rattle.haft_run.specs.declared.state.Thread.TheVariants.{Absent, Running, Ex
 use Rattle.haft_run.specs.declared.state.Effect.{Effect}
 use Rattle.haft_run.specs.declared.state.Effect.TheVariants.{Acts, Passes, Fails, Traps}
 use Rattle.haft_run.specs.Source.{callees}
-use Rattle.haft_run.specs.Hard.{Machine, Event, Turn, Abort, after_effect, fetched, effect_of, frame_after, exited, turned, happened, unless_stopped, event, thread_at, code_of}
+use Rattle.sched_file.specs.Events.{Happening, TurnOf, AbortOf, UpsetBy}
+use Rattle.haft_run.specs.Schedule.{machine_events}
+use Rattle.haft_run.specs.Hard.{Machine, Event, Turn, Abort, after_effect, fetched, effect_of, frame_after, exited, turned, happened, unless_stopped, event, thread_at, code_of, run_from}
 
 -- an event adds a turn at most
 length-after_effect : (m : ModuleParts) (h : Machine) (t : ℕ) (frame : Frame) (effect : Effect) → length (after_effect m h t frame effect).turns ≤ length h.turns + 1
@@ -43,3 +45,14 @@ length-happened m functions h (Abort t) = omega arith
 
 pub length-event : (m : ModuleParts) (functions : List (List HBlock)) (h : Machine) (e : Event) → length (event m functions h e).turns ≤ length h.turns + 1
 length-event m functions h e = length-unless_stopped h.stop h _ (length-happened m functions h e)
+
+-- a run over one event of a schedule, and over those behind it
+pub run_from-next : (m : ModuleParts) (functions : List (List HBlock)) (h : Machine) (e : Happening) (rest : List Happening) → run_from m functions h (machine_events (e ∷ rest)) ≡ run_from m functions (run_from m functions h (machine_events (e ∷ []))) (machine_events rest)
+run_from-next m functions h (TurnOf thread) rest = refl
+run_from-next m functions h (AbortOf thread) rest = refl
+run_from-next m functions h (UpsetBy upset) rest = refl
+
+pub length-next : (m : ModuleParts) (functions : List (List HBlock)) (h : Machine) (e : Happening) → length (run_from m functions h (machine_events (e ∷ []))).turns ≤ length h.turns + 1
+length-next m functions h (TurnOf thread) = length-event m functions h (Turn thread.0)
+length-next m functions h (AbortOf thread) = length-event m functions h (Abort thread.0)
+length-next m functions h (UpsetBy upset) = omega arith

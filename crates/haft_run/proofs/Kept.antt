@@ -14,7 +14,7 @@ use Rattle.haft_run.specs.Source.{State, Answer, Went, Idle, Undefined, Ended, s
 use Rattle.haft_run.specs.Hard as hard
 use Rattle.haft_run.specs.Hard.{Machine, Turn, event}
 use Rattle.haft_run.specs.Turns.{hardened_functions}
-use Rattle.haft_run.specs.Meaning.{AllWent, code_of, NoneUndefined, IsDefined}
+use Rattle.haft_run.specs.Meaning.{AllWent, code_of, NoneUndefined, IsGood}
 use Rattle.ir_action.specs.declared.actions.Fault.TheVariants.{Unsupported}
 use Rattle.haft_run.proofs.Places.{slice_get-drop, slice_get-drop_none}
 use Rattle.haft_run.proofs.Lists.{SetAt, Same, Other, set_at}
@@ -57,7 +57,7 @@ NoneUndefined-append (Undefined other ∷ answers) fault h n = h
 NoneUndefined-append (Ended code ∷ answers) fault h n = h
 
 -- a module without undefined steps comes to none
-pub never_undefined : (m : ModuleParts) (h : Machine) (s : State) (answers : List Answer) (t : ℕ) (fault : Faults) → IsDefined m → Goes m h s answers → step m s t ≡ (s, Undefined fault) → ⊥
+pub never_undefined : (m : ModuleParts) (h : Machine) (s : State) (answers : List Answer) (t : ℕ) (fault : Faults) → IsGood m → Goes m h s answers → step m s t ≡ (s, Undefined fault) → ⊥
 never_undefined m h s answers t fault d g e =
     NoneUndefined-append answers fault g.went
     (subst (λ (run : source.Run). NoneUndefined run.answers) (Reached-step m h.turns s s answers t (Undefined fault) g.reached e).is (d (h.turns ++ t ∷ [])))

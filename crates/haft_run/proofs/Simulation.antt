@@ -7,7 +7,7 @@ use Rattle.haft_run.specs.Source.{State, Answer, Went, Idle, Undefined, Ended}
 use Rattle.haft_run.specs.Hard as hard
 use Rattle.haft_run.specs.Hard.{Machine, Event, Turn, Abort, event}
 use Rattle.haft_run.specs.Turns.{hardened_functions, result_of, run_on, turns_of, grouped}
-use Rattle.haft_run.specs.Meaning.{AllWent, code_of, IsDefined, Means}
+use Rattle.haft_run.specs.Meaning.{AllWent, code_of, IsGood, Means}
 use Rattle.haft_run.proofs.Agreement.{Agrees-refl}
 use Rattle.haft_run.proofs.Grouping.{turns_of-grouped}
 use Rattle.haft_run.proofs.Places.{code_of-hardened}
@@ -25,7 +25,7 @@ exit_turn m h (suc t) word s answers g e f =
     subst (Simulates m) (sym moves) (IsGoing _ _ (exits m h s answers t word g e f))
 
 -- a turn while the machine goes on
-turn_going : (m : ModuleParts) (h : Machine) (t : ℕ) (s : State) (answers : List Answer) → IsDefined m → Goes m h s answers → Stands Both m (source.thread_at s.threads t) (hard.thread_at h.threads t) → Simulates m (event m (hardened_functions m) h (Turn t))
+turn_going : (m : ModuleParts) (h : Machine) (t : ℕ) (s : State) (answers : List Answer) → IsGood m → Goes m h s answers → Stands Both m (source.thread_at s.threads t) (hard.thread_at h.threads t) → Simulates m (event m (hardened_functions m) h (Turn t))
 turn_going m h t s answers d g (BothAbsent e f) =
     let rests : event m (hardened_functions m) h (Turn t) ≡ h = rw (g.going, f) refl in
     subst (Simulates m) (sym rests) (IsGoing s answers g)
@@ -34,7 +34,7 @@ turn_going m h t s answers d g (BothRun from frame e f runs) =
 turn_going m h t s answers d g (BothExit word e f) = exit_turn m h t word s answers g e f
 
 -- each event is kept
-event_kept : (m : ModuleParts) (h : Machine) (e : Event) → IsDefined m → Simulates m h → Simulates m (event m (hardened_functions m) h e)
+event_kept : (m : ModuleParts) (h : Machine) (e : Event) → IsGood m → Simulates m h → Simulates m (event m (hardened_functions m) h e)
 event_kept m h (Turn t) d (IsGoing s answers g) = turn_going m h t s answers d g (g.threads t)
 event_kept m h (Turn t) d (IsOver s answers code o) =
     let rests : event m (hardened_functions m) h (Turn t) ≡ h = rw o.stopped refl in
@@ -46,7 +46,7 @@ event_kept m h (Abort t) d (IsOver s answers code o) =
     let rests : event m (hardened_functions m) h (Abort t) ≡ h = rw o.stopped refl in
     subst (Simulates m) (sym rests) (IsOver s answers code o)
 
-run_kept : (m : ModuleParts) (h : Machine) (events : List Event) → IsDefined m → Simulates m h → Simulates m (hard.run_from m (hardened_functions m) h events)
+run_kept : (m : ModuleParts) (h : Machine) (events : List Event) → IsGood m → Simulates m h → Simulates m (hard.run_from m (hardened_functions m) h events)
 run_kept m h [] d x = x
 run_kept m h (e ∷ events) d x = run_kept m (event m (hardened_functions m) h e) events d (event_kept m h e d x)
 
@@ -106,5 +106,5 @@ result_means m h (IsOver s answers code o) =
     }
 
 -- a module without undefined steps means what its hardened runs say
-pub run_on-means : (m : ModuleParts) (events : List Event) → IsDefined m → Means m (run_on m events)
+pub run_on-means : (m : ModuleParts) (events : List Event) → IsGood m → Means m (run_on m events)
 run_on-means m events d = result_means m _ (run_kept m hard.opening events d (IsGoing source.opening [] (opening_goes m)))

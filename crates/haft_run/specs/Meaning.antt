@@ -1,6 +1,8 @@
 -- What a run of the hardened program says of the source program.
 use Rattle.std.specs.Prelude.{ℕ, ◌≡◌, ◌↔◌, List, [], ◌∷◌, Option, Some, None}
 use Rattle.ir_core.specs.Module.{ModuleParts}
+use Rattle.ir_action.specs.declared.actions.Fault.{Fault as Faults}
+use Rattle.ir_action.specs.declared.actions.Fault.TheVariants.{Divide, Poison}
 use Rattle.haft_run.specs.declared.outcome.Stop.{Stop}
 use Rattle.haft_run.specs.declared.outcome.Stop.TheVariants.{End, Fail, Trap}
 use Rattle.haft_run.specs.declared.outcome.RunResult.{RunResult}
@@ -32,9 +34,26 @@ NoneUndefined [] = Unit {0}
 NoneUndefined (Undefined fault ∷ answers) = ⊥
 NoneUndefined (answer ∷ answers) = NoneUndefined answers
 
--- no list of turns comes to an undefined step
-abbrev pub IsDefined : ModuleParts → Type 0
-IsDefined m = (turns : List ℕ) → NoneUndefined (source m turns).answers
+-- The module is good: no list of turns comes to an undefined step. Nothing reads arguments or touches memory
+-- yet, so that there is nothing else on which a step depends, and no race.
+abbrev pub IsGood : ModuleParts → Type 0
+IsGood m = (turns : List ℕ) → NoneUndefined (source m turns).answers
+
+-- each undefined answer is for an allowed cause
+abbrev pub UndefinedOnly : (Faults → Type 0) → List Answer → Type 0
+UndefinedOnly allowed [] = Unit {0}
+UndefinedOnly allowed (Undefined fault ∷ answers) = allowed fault × UndefinedOnly allowed answers
+UndefinedOnly allowed (answer ∷ answers) = UndefinedOnly allowed answers
+
+-- the causes for which an operator has no result (LLVM Language Reference, 'Binary Operations', 'Poison Values')
+abbrev pub IsOperatorCause : Faults → Type 0
+IsOperatorCause Divide = Unit {0}
+IsOperatorCause Poison = Unit {0}
+IsOperatorCause fault = ⊥
+
+-- whatever the turns are, a step is undefined only by an operator
+abbrev pub IsUndefinedByOperators : ModuleParts → Type 0
+IsUndefinedByOperators m = (turns : List ℕ) → UndefinedOnly IsOperatorCause (source m turns).answers
 
 -- the result stands for the source run on the turns that it tells
 pub record Means (m : ModuleParts) (r : RunResult) : Type 0 where
