@@ -1,5 +1,5 @@
 -- The tests of a module tell exactly the built modules.
-use Rattle.std.proofs.Common.{ℕ, ◌≡◌, ◌&&◌, not, List, [], ◌∷◌, ◌++◌, Option, Some, None, Bool, true, false, IsTrue, codes, Decides, refl, ap, append_assoc, append-nil}
+use Rattle.std.proofs.Common.{ℕ, ◌≡◌, ◌&&◌, List, [], ◌∷◌, ◌++◌, Option, Some, None, Bool, true, false, IsTrue, codes, Decides, refl, ap, append_assoc, append-nil}
 use Rattle.std.proofs.lemmas.Bool.{not-true, not_from_false}
 use Rattle.std.proofs.lemmas.Bool.Decides.{Decides-and, Decides-like, Decides-eqb, Decides-not}
 use Rattle.std.proofs.lemmas.Slice.Eq.{bytes_eq-Decides}

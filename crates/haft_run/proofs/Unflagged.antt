@@ -6,10 +6,8 @@ use Rattle.ir_core.specs.declared.instruction.BinOp.TheVariants.{Shl, Lshr, Ashr
 use Rattle.ir_core.specs.declared.instruction.Flags.{Flags}
 use Rattle.ir_core.specs.declared.instruction.Inst.{Inst}
 use Rattle.ir_core.specs.declared.instruction.Inst.TheVariants as insts
-use Rattle.ir_core.specs.declared.types.Width.{Width}
 use Rattle.op_table.specs.Operators.{bits, binary, is_divide, is_poison}
 use Rattle.ir_action.specs.declared.actions.Callee.{Callee}
-use Rattle.ir_action.specs.declared.actions.Action.{Action}
 use Rattle.ir_action.specs.declared.actions.Action.TheVariants.{Assign}
 use Rattle.ir_action.specs.Action.{action_of, destination, on_word, operated, word_at}
 use Rattle.hard_ir.specs.Image.{no_flags, unflagged}

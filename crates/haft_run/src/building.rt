@@ -3,9 +3,10 @@
 //! What is meant says `specs/Built.antt`; each function here computes a test of `specs/Testing.antt`. Whether an
 //! earlier line assigns a register is told by its number alone, as long as the results have the numbers behind the
 //! label's in order, which is how the names of a text are numbered. At which width it assigns is looked up in the line
-//! itself, which is guessed by that number. So the time is linear in the lines of an ordinary text; behind a result of
-//! another number, or where a guess fails, the earlier lines are looked through.
-ghost use Rattle.std.specs.Prelude.{◌≡◌, ◌↔◌, ◌++◌, [], ◌∷◌, IsTrue};
+//! itself, which is guessed by that number from both ends. So the time is linear in the lines of a text, unless many
+//! lines without a result stand both before a register and between it and its use; there, and behind a result of
+//! another number, the earlier lines are looked through.
+ghost use Rattle.std.specs.Prelude.{◌≡◌, ◌↔◌, ◌++◌, [], ◌∷◌, IsTrue, true};
 ghost use Rattle.haft_run.specs.Built.{name_of, is_register, assigns, is_assigned, result_width, assigns_at, is_assigned_at, IsBuilt};
 ghost use Rattle.ir_action.specs.Action.{int_width as width_of};
 ghost use Rattle.haft_run.specs.Meaning.{IsUndefinedByOperators};
@@ -16,6 +17,9 @@ use crate::machine::sym_text;
 use ir_action::{int_width, is_conversion};
 use ir_core::{Block, CastOp, Declare, Func, Inst, Loc, Module, Sym, Ty, Val, Width};
 use op_table::bit_count;
+
+/// How often a guess at a line is mended.
+const GUESSES: u32 = 64;
 
 /// Whether the type is `i64`.
 fn is_i64(ty: &Ty) -> bool
@@ -86,29 +90,52 @@ fn is_assigned_at(lines: &[Inst], at: Loc, w: Width) -> bool
     lines.iter().any(|line| assigns_at(line, at, w))
 }
 
-/// How far before this line, at least, the line that assigns the register stands, where results are in order:
-/// no line has two.
-fn lines_back(line: Option<&Inst>, at: Loc) -> usize {
+/// How far from this line, at least, the line that assigns the register stands, where results are in order: no line
+/// has two.
+fn lines_between(line: Option<&Inst>, at: Loc) -> usize {
     match line {
         Some(line) => match destination_of(line) {
-            Some(dst) => dst.0.saturating_sub(at.0) as usize,
+            Some(dst) => dst.0.abs_diff(at.0) as usize,
             None => 1,
         },
         None => 1,
     }
 }
 
-/// A guess at the line that assigns the register, from the last line back. Nothing rests on it.
-fn guess(lines: &[Inst], at: Loc) -> usize {
-    let mut index = lines.len();
-    for _step in 0..64 {
-        let back = lines_back(lines.get(index), at);
-        if back == 0 {
+/// A guess at the line that assigns the register, from this line on. Nothing rests on it.
+fn guess_behind(lines: &[Inst], from: usize, at: Loc) -> usize {
+    let mut index = from;
+    for _step in 0..GUESSES {
+        let lines_left = lines_between(lines.get(index), at);
+        if lines_left == 0 {
             break;
         }
-        index = index.saturating_sub(back);
+        index = index.saturating_add(lines_left);
     }
     index
+}
+
+/// A guess at the line that assigns the register, from the last line back. Nothing rests on it.
+fn guess_before_end(lines: &[Inst], at: Loc) -> usize {
+    let mut index = lines.len();
+    for _step in 0..GUESSES {
+        let lines_left = lines_between(lines.get(index), at);
+        if lines_left == 0 {
+            break;
+        }
+        index = index.saturating_sub(lines_left);
+    }
+    index
+}
+
+/// Whether this line assigns the register a word of this width.
+fn is_at(lines: &[Inst], index: usize, at: Loc, w: Width) -> bool
+    ensures { IsTrue result → is_assigned_at lines.now at.0 w ≡ true }
+{
+    match lines.get(index) {
+        Some(line) => assigns_at(line, at, w),
+        None => false,
+    }
 }
 
 /// Whether the parameters are one `i64`.
@@ -176,10 +203,14 @@ impl Before<'_> {
     fn assigns_at(&self, at: Loc, w: Width) -> bool
         ensures { result ≡ is_assigned_at self.now.lines.now at.0 w }
     {
-        match self.lines.get(guess(self.lines, at)) {
-            Some(line) if assigns_at(line, at, w) => true,
-            _ => is_assigned_at(self.lines, at, w),
-        }
+        let first = at.0.saturating_sub(self.label.0).saturating_sub(1);
+        is_at(
+            self.lines,
+            guess_behind(self.lines, first as usize, at),
+            at,
+            w,
+        ) || is_at(self.lines, guess_before_end(self.lines, at), at, w)
+            || is_assigned_at(self.lines, at, w)
     }
 
     /// Whether the value is a constant, or a register that is assigned a word of this width.
