@@ -1,6 +1,9 @@
 //! Runs of modules with operators, comparisons, selections and casts. Expected words are worked out from the LLVM
 //! Language Reference, expected turns from the images: two hardened instructions for each of these, a check for each
 //! register that is given out or returned.
+ghost use Rattle.std.specs.Prelude.{IsTrue};
+ghost use Rattle.haft_run.specs.Built.{IsBuilt};
+
 use haft_run::{built, report, run, upset_free};
 use ir_core::{Declare, Func, Module, Seq, Ty, Width};
 use ir_lex::lex_line;
@@ -112,7 +115,7 @@ const SCHEDULES: &[(&str, &str)] = &[
     ("turn 63 4194304", "aborts 0 0 0 0\nstop bound\nsrc\n"),
 ];
 
-/// Adds five with the words 2 and 3 and gives it out.
+/// Adds 2 and 3, and gives the sum out.
 const SUM: &str = "%a = add i64 2, 3\ncall void @haft_out(i64 %a)\nret i32 0";
 
 /// Blocks, and whether they are built.
@@ -167,6 +170,7 @@ const FORMS: &[(&str, bool)] = &[
 
 /// `main` of one block, whose name is 0, with these lines.
 fn main_of(rt: &impl Abort, alloc: Global, m: &mut Module, lines: &str) -> Func {
+    assert!(rt; m.sym_count() < 4_294_967_295);
     let main = m.sym(b"main").expect(rt, "no memory for a name");
     let mut function = Func::new(alloc, main, Ty::Int(Width::W32));
     let label = function.loc(b"0").expect(rt, "no memory for a name");
@@ -203,11 +207,18 @@ fn module_of(rt: &impl Abort, alloc: Global, lines: &str) -> Module {
     m
 }
 
+/// Whether the module is built.
+fn is_built(m: &Module) -> bool
+    ensures { IsTrue result → IsBuilt m.now }
+{
+    built(m)
+}
+
 /// The report of the run over a schedule.
 fn report_of(rt: &impl Abort, alloc: Global, m: &Module, schedule: &str) -> Vec<u8> {
     assert!(rt; schedule.len() <= 4_194_304);
     let schedule = parse_schedule(alloc, schedule.as_bytes()).expect(rt, "a schedule is unfit");
-    assert!(rt; built(m));
+    assert!(rt; is_built(m));
     assert!(rt; upset_free(&schedule));
     let result = run(alloc, m, &schedule).expect(rt, "no memory to run");
     report(alloc, &result).expect(rt, "no memory for a report")
