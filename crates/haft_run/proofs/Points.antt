@@ -22,7 +22,7 @@ use Rattle.haft_run.specs.Source.{State, Answer, Went, Idle, Undefined, Ended}
 use Rattle.haft_run.specs.Hard as hard
 use Rattle.haft_run.specs.Hard.{Machine}
 use Rattle.haft_run.specs.Turns.{hardened_functions}
-use Rattle.haft_run.specs.Meaning.{AllWent, code_of}
+use Rattle.haft_run.specs.Meaning.{AllWent, code_of, IsUndefinedOn}
 use Rattle.haft_run.proofs.Agreement.{Agrees}
 
 -- which sides of a frame are known to stand in the source
@@ -99,3 +99,5 @@ pub record Ends (m : ModuleParts) (h : Machine) (s : State) (answers : List Answ
 pub data Simulates (m : ModuleParts) (h : Machine) : Type 0 where
   IsGoing : (s : State) (answers : List Answer) → Goes m h s answers → Simulates m h
   IsOver : (s : State) (answers : List Answer) (code : ℕ) → Ends m h s answers code → Simulates m h
+  -- the source is undefined on the machine's turns
+  IsPast : IsUndefinedOn m h.turns → Simulates m h

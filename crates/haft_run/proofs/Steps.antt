@@ -34,12 +34,11 @@ use Rattle.haft_run.specs.Source.{State, Answer, Went, Undefined, step}
 use Rattle.haft_run.specs.Hard as hard
 use Rattle.haft_run.specs.Hard.{Machine, Turn, event}
 use Rattle.haft_run.specs.Turns.{hardened_functions}
-use Rattle.haft_run.specs.Meaning.{IsGood}
 use Rattle.haft_run.proofs.Agreement.{Agrees, Agrees-assigned, action_of-Agrees}
 use Rattle.haft_run.proofs.Unflagged.{unflagged-Assign, destination-unflagged}
 use Rattle.haft_run.proofs.Places.{drop-suc}
-use Rattle.haft_run.proofs.Points.{Both, Point, AtChecks, AtShadow, AtEnd, RunsAt, BothRun, BothExit, Goes, Simulates, IsGoing}
-use Rattle.haft_run.proofs.Kept.{never_undefined, silent, retires, step-running, step-past, event-running, hard_next, source_next}
+use Rattle.haft_run.proofs.Points.{Both, Point, AtChecks, AtShadow, AtEnd, RunsAt, BothRun, BothExit, Goes, Simulates, IsGoing, IsPast}
+use Rattle.haft_run.proofs.Kept.{is_undefined, still_undefined, silent, retires, step-running, step-past, event-running, hard_next, source_next}
 
 -- the point before what is left of a block
 pub next_point : (callees : List Callee) (registers : List (Option ℕ)) (frame : Frame) (code rest : List Inst) (list : List HInst) → code ≡ rest → list ≡ images rest → Agrees frame.master registers → Agrees frame.shadow registers → Point Both callees registers frame code list
@@ -137,7 +136,6 @@ unassigned callees registers inst before after operand e n = absurd (none_of ope
 
 -- what is known where a thread that runs has its turn
 pub record Here (m : ModuleParts) (h : Machine) (t : ℕ) (s : State) (answers : List Answer) (from : source.Frame) (frame : Frame) : Type 0 where
-  pub defined : IsGood m
   pub goes : Goes m h s answers
   pub in_source : source.thread_at s.threads t ≡ source.Running from
   pub in_hard : hard.thread_at h.threads t ≡ Running frame
@@ -150,10 +148,10 @@ code_left m from = drop from.index (source.code_of m from.function from.block)
 abbrev list_left : ModuleParts → Frame → List HInst
 list_left m frame = drop frame.index (hard.code_of (hardened_functions m) frame.function frame.block)
 
--- a fault would be an undefined step
-never_faulty : (m : ModuleParts) (h : Machine) (t : ℕ) (s : State) (answers : List Answer) (from : source.Frame) (frame : Frame) (inst : Inst) (rest : List Inst) (fault : Faults) → Here m h t s answers from frame → code_left m from ≡ inst ∷ rest → action_of (source.callees m) from.registers inst ≡ Fault fault → ⊥
-never_faulty m h t s answers from frame inst rest fault x e f =
-    never_undefined m h s answers t fault x.defined x.goes (step-running m h s answers t from inst rest x.goes x.in_source e ∙ rw f refl)
+-- a fault is an undefined step of the source
+past_fault : (m : ModuleParts) (h : Machine) (t : ℕ) (s : State) (answers : List Answer) (from : source.Frame) (frame : Frame) (inst : Inst) (rest : List Inst) (fault : Faults) → Here m h t s answers from frame → code_left m from ≡ inst ∷ rest → action_of (source.callees m) from.registers inst ≡ Fault fault → Simulates m (event m (hardened_functions m) h (Turn t))
+past_fault m h t s answers from frame inst rest fault x e f =
+    IsPast (still_undefined m (hardened_functions m) h (Turn t) (is_undefined m h s answers t fault x.goes (step-running m h s answers t from inst rest x.goes x.in_source e ∙ rw f refl)))
 
 -- a turn that moves the hardened thread inside the image
 stays : (m : ModuleParts) (h : Machine) (t : ℕ) (s : State) (answers : List Answer) (from : source.Frame) (frame next : Frame) → Here m h t s answers from frame → event m (hardened_functions m) h (Turn t) ≡ hard.with_thread h t (Running next) → RunsAt Both m from next → Simulates m (event m (hardened_functions m) h (Turn t))
@@ -163,7 +161,7 @@ stays m h t s answers from frame next x e runs =
 -- The master of an instruction that is done on each side: the shadow is next.
 do_master : (m : ModuleParts) (h : Machine) (t : ℕ) (s : State) (answers : List Answer) (from : source.Frame) (frame : Frame) (inst : Inst) (rest : List Inst) → Here m h t s answers from frame → code_left m from ≡ inst ∷ rest → list_left m frame ≡ Do M (unflagged inst) false ∷ Do S (unflagged inst) true ∷ images rest → Agrees frame.master from.registers → Agrees frame.shadow from.registers
     → Assigns (action_of (source.callees m) from.registers inst) → Simulates m (event m (hardened_functions m) h (Turn t))
-do_master m h t s answers from frame inst rest x e l master shadow (IsFault fault f) = absurd (never_faulty m h t s answers from frame inst rest fault x e f)
+do_master m h t s answers from frame inst rest x e l master shadow (IsFault fault f) = past_fault m h t s answers from frame inst rest fault x e f
 do_master m h t s answers from frame inst rest x e l master shadow (Takes word f) =
     let next : Frame = record frame { index = suc frame.index; master = source.assigned (destination inst) word frame.master } in
     let same : action_of (source.callees m) frame.master (unflagged inst) ≡ Assign word = unflagged-Assign (source.callees m) frame.master from.registers inst word master f in
@@ -195,7 +193,7 @@ do_shadow m h t s answers from frame inst rest word x e l f master shadow =
 -- An instruction that is done once.
 do_once : (m : ModuleParts) (h : Machine) (t : ℕ) (s : State) (answers : List Answer) (from : source.Frame) (frame : Frame) (inst : Inst) (rest : List Inst) → Here m h t s answers from frame → code_left m from ≡ inst ∷ rest → list_left m frame ≡ Do M inst true ∷ images rest → Agrees frame.master from.registers → Agrees frame.shadow from.registers
     → Acts (action_of (source.callees m) from.registers inst) → Simulates m (event m (hardened_functions m) h (Turn t))
-do_once m h t s answers from frame inst rest x e l master shadow (Faulty fault f) = absurd (never_faulty m h t s answers from frame inst rest fault x e f)
+do_once m h t s answers from frame inst rest x e l master shadow (Faulty fault f) = past_fault m h t s answers from frame inst rest fault x e f
 do_once m h t s answers from frame inst rest x e l master shadow (Asks request f) =
     let next : Frame = record frame { index = suc frame.index } in
     let after : source.Frame = record from { index = suc from.index } in
@@ -228,14 +226,14 @@ do_instruction m h t s answers from frame (insts.Call dst ret callee args) rest 
     do_once m h t s answers from frame (insts.Call dst ret callee args) rest x e l master shadow (called-Acts (slice_index_or (source.callees m) callee.0 Unknown) from.registers args)
 do_instruction m h t s answers from frame (insts.Ret ty value) rest x e l master shadow =
     do_once m h t s answers from frame (insts.Ret ty value) rest x e l master shadow (returned-Acts from.registers value)
-do_instruction m h t s answers from frame inst rest x e l master shadow = absurd (never_faulty m h t s answers from frame inst rest Unsupported x e refl)
+do_instruction m h t s answers from frame inst rest x e l master shadow = past_fault m h t s answers from frame inst rest Unsupported x e refl
 
 -- A check of a register whose sides both hold the source's word.
 do_check : (m : ModuleParts) (h : Machine) (t : ℕ) (s : State) (answers : List Answer) (from : source.Frame) (frame : Frame) (inst : Inst) (rest : List Inst) (ty : Ty) (reg : Loc) (passed left : List (Ty × Val)) → Here m h t s answers from frame → code_left m from ≡ inst ∷ rest → checked inst ≡ passed ++ (ty, values.Reg reg) ∷ left → list_left m frame ≡ Chk Always ty reg ∷ checks left (doubled inst (images rest)) → Agrees frame.master from.registers → Agrees frame.shadow from.registers
     → (word : Option ℕ) → get from.registers reg.0 ≡ word → Simulates m (event m (hardened_functions m) h (Turn t))
 do_check m h t s answers from frame inst rest ty reg passed left x e c l master shadow None n =
     let faulty : IsFaulty (action_of (source.callees m) from.registers inst) = unassigned (source.callees m) from.registers inst passed left (ty, values.Reg reg) c n in
-    absurd (never_faulty m h t s answers from frame inst rest faulty.fault x e faulty.is)
+    past_fault m h t s answers from frame inst rest faulty.fault x e faulty.is
 do_check m h t s answers from frame inst rest ty reg passed left x e c l master shadow (Some word) n =
     let a : get frame.master reg.0 ≡ Some word = master.same reg.0 ∙ n in
     let b : get frame.shadow reg.0 ≡ Some word = shadow.same reg.0 ∙ n in
@@ -259,4 +257,5 @@ do_checks m h t s answers from frame inst rest passed ((ty, value) ∷ left) x e
 pub at_point : (m : ModuleParts) (h : Machine) (t : ℕ) (s : State) (answers : List Answer) (from : source.Frame) (frame : Frame) → Here m h t s answers from frame → Point Both (source.callees m) from.registers frame (code_left m from) (list_left m frame) → Simulates m (event m (hardened_functions m) h (Turn t))
 at_point m h t s answers from frame x (AtChecks inst rest passed left e c l master shadow) = do_checks m h t s answers from frame inst rest passed left x e c l master shadow
 at_point m h t s answers from frame x (AtShadow inst rest word e l f master shadow) = do_shadow m h t s answers from frame inst rest word x e l f master shadow
-at_point m h t s answers from frame x (AtEnd e l) = absurd (never_undefined m h s answers t Unsupported x.defined x.goes (step-past m h s answers t from x.goes x.in_source e))
+at_point m h t s answers from frame x (AtEnd e l) =
+    IsPast (still_undefined m (hardened_functions m) h (Turn t) (is_undefined m h s answers t Unsupported x.goes (step-past m h s answers t from x.goes x.in_source e)))

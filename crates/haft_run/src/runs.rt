@@ -3,7 +3,7 @@ ghost use Rattle.std.specs.Prelude.{ℕ, ◌≡◌, ◌<◌, ◌^◌, List, leng
 ghost use Rattle.sched_file.specs.Events.{events_of};
 ghost use Rattle.small_text.specs.SmallText.{SmallText};
 ghost use Rattle.haft_run.specs.Turns.{run_on, turns_of_main};
-ghost use Rattle.haft_run.specs.Meaning.{IsGood, Means};
+ghost use Rattle.haft_run.specs.Meaning.{IsGood, Means, Told};
 ghost use Rattle.haft_run.specs.Built.{IsBuilt};
 ghost use Rattle.haft_run.specs.Schedule.{IsUpsetFree, machine_events};
 
@@ -42,7 +42,9 @@ pub fn run(alloc: Global, m: &Module, s: &Schedule) -> Result<RunResult, AllocEr
     requires few { length (events_of s.now.lines) < 2 ^ 64 }
     // The result is that of the hardened module's run on the events.
     ensures exact { IfOk result (λ r. r ≡ run_on m.now (machine_events (events_of s.now.lines))) }
-    // Where the module comes to no undefined step, the result stands for a run of it.
+    // The result stands for a run of the source, or the source is undefined on the result's turns.
+    ensures told { IfOk result (λ r. Told m.now r) }
+    // So it stands for a run of a good module.
     ensures meaning { IsGood m.now → IfOk result (λ r. Means m.now r) }
 {
     let callees = callees_of(alloc, m)?;

@@ -7,7 +7,7 @@ use Rattle.haft_run.specs.Schedule.{machine_events}
 use Rattle.haft_run.specs.Turns.{result_of}
 use Rattle.haft_run.proofs.Events.{run_from-next, length-next}
 use Rattle.haft_run.proofs.Repeats.{run_from-ended}
-use Rattle.haft_run.proofs.Simulation.{run_on-means}
+use Rattle.haft_run.proofs.Simulation.{run_on-told, run_on-means}
 use Rattle.haft_run.proofs.runs.run.Goals as goal
 
 pub events-preserved : goal.events-preserved
@@ -29,6 +29,9 @@ returns-clause-exact c =
     ∙ ap result_of (sym (run_from-ended m functions (state_of c.events.machine) c.events.cursor c.in_default.ensures.end.0)
     ∙ c.events.invariant.0
     ∙ ap (λ code. run_from m code opening events) (c.items-functions.ensures ∙ c.in_ok-hardened.ensures))
+
+pub returns-clause-told : goal.returns-clause-told
+returns-clause-told c = rw (returns-clause-exact c) (run_on-told c.args.m.now (machine_events (events_of c.args.s.now.lines)))
 
 pub returns-clause-meaning : goal.returns-clause-meaning
 returns-clause-meaning c = λ good. rw (returns-clause-exact c) (run_on-means c.args.m.now (machine_events (events_of c.args.s.now.lines)) good)
