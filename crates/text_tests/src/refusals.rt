@@ -7,14 +7,20 @@ const TEXTS: &[(&str, &str)] = &[
     // Nothing said, with and without a last line feed, and with carriage returns.
     ("", "0 0 0 0 0 0"),
     ("\n\n", "0 0 0 0 0 0"),
-    ("; a comment\n \t\r\n; and one without a line feed", "0 0 0 0 0 0"),
+    (
+        "; a comment\n \t\r\n; and one without a line feed",
+        "0 0 0 0 0 0",
+    ),
     ("%T = type { i8 }\r\n@g = global i8 1", "1 1 0 0 0 0"),
     ("%T = type { i8 }\r@g = global i8 1", "line 1: @g"),
     // Functions, with and without a label at their entry.
     ("define void @f() {\n}\n", "0 0 0 1 1 0"),
     ("define void @f() {\n  ret void\n}", "0 0 0 1 1 1"),
     ("define void @f() {\nx:\n  ret void\ny:\n}\n", "0 0 0 1 2 1"),
-    ("define void @f() {\n; c\n\nx:\n}\ndefine void @g() {\n}\n", "0 0 0 2 2 0"),
+    (
+        "define void @f() {\n; c\n\nx:\n}\ndefine void @g() {\n}\n",
+        "0 0 0 2 2 0",
+    ),
     // Where the text ends in a function.
     ("define void @f() {", "line 2: end"),
     ("define void @f() {\n", "line 2: end"),
@@ -35,9 +41,18 @@ const TEXTS: &[(&str, &str)] = &[
     ("@g = global i8\n", "line 1: end"),
     ("@g = global i8 256\n", "line 1: 256"),
     // Dropped lines outside functions and inside.
-    ("source_filename = ?\n target ?\n\tattributes #0 = { ? }\n!0 = ?\n", "0 0 0 0 0 0"),
-    ("declare void @\"a b\"(?)\ndeclare void @free2(?)\n", "0 0 0 0 0 0"),
-    ("declare void @free(ptr)\ndeclare ? void\n", "line 2, byte 9"),
+    (
+        "source_filename = ?\n target ?\n\tattributes #0 = { ? }\n!0 = ?\n",
+        "0 0 0 0 0 0",
+    ),
+    (
+        "declare void @\"a b\"(?)\ndeclare void @free2(?)\n",
+        "0 0 0 0 0 0",
+    ),
+    (
+        "declare void @free(ptr)\ndeclare ? void\n",
+        "line 2, byte 9",
+    ),
     ("declare void @free(ptr)\ndeclare void\n", "line 2: end"),
     ("#dbg_value(1)\n", "line 1, byte 1"),
     ("call void @llvm.dbg.value(ptr null)\n", "line 1: call"),
@@ -45,7 +60,10 @@ const TEXTS: &[(&str, &str)] = &[
         "define void @f() {\ntarget ?\n!0 = ?\ndeclare ? @puts(?)\n  #dbg_value(?)\n  call void @llvm.dbg.value(?)\n\ttail call void @llvm.lifetime.start(?)\n}\n",
         "0 0 0 1 1 0",
     ),
-    ("define void @f() {\n  call  void @llvm.dbg.value(ptr null)\n", "line 2: @llvm.dbg.value"),
+    (
+        "define void @f() {\n  call  void @llvm.dbg.value(ptr null)\n",
+        "line 2: @llvm.dbg.value",
+    ),
     ("define void @f() {\n  !0 = 1\n", "line 2: !0"),
     // A `switch` over several lines, where nothing is dropped.
     (
@@ -56,13 +74,34 @@ const TEXTS: &[(&str, &str)] = &[
         "define void @f(i8 %x) {\n  switch i8 %x, label %a [\n    i8 1, label %a\n    i8 2 label %a\n ?\n  ]\n",
         "line 4: label",
     ),
-    ("define void @f(i8 %x) {\n  switch i8 %x, label [\n ?\n", "line 2: ["),
-    ("define void @f(i8 %x) {\n  switch i8 %x, label %a [\n i8 1, ?\n", "line 3, byte 8"),
-    ("define void @f(i8 %x) {\n  switch i8 %x, label %a [\n i8 1,\n", "line 4: end"),
-    ("define void @f(i8 %x) {\n  switch i8 %x, label %a [\n i8 1, label %a\n", "line 4: end"),
-    ("define void @f(i8 %x) {\n  switch i8 %x, label %a [\n i8 1, ]\n", "line 3: ]"),
-    ("define void @f(i8 %x) {\n  switch i8 %x, label %a [\n\n ] ,\n", "line 4: end"),
-    ("define void @f(i8 %x) {\n  switch i8 %x, label %a\n  [ ]\n", "line 2: end"),
+    (
+        "define void @f(i8 %x) {\n  switch i8 %x, label [\n ?\n",
+        "line 2: [",
+    ),
+    (
+        "define void @f(i8 %x) {\n  switch i8 %x, label %a [\n i8 1, ?\n",
+        "line 3, byte 8",
+    ),
+    (
+        "define void @f(i8 %x) {\n  switch i8 %x, label %a [\n i8 1,\n",
+        "line 4: end",
+    ),
+    (
+        "define void @f(i8 %x) {\n  switch i8 %x, label %a [\n i8 1, label %a\n",
+        "line 4: end",
+    ),
+    (
+        "define void @f(i8 %x) {\n  switch i8 %x, label %a [\n i8 1, ]\n",
+        "line 3: ]",
+    ),
+    (
+        "define void @f(i8 %x) {\n  switch i8 %x, label %a [\n\n ] ,\n",
+        "line 4: end",
+    ),
+    (
+        "define void @f(i8 %x) {\n  switch i8 %x, label %a\n  [ ]\n",
+        "line 2: end",
+    ),
     (
         "define void @f(i8 %x) {\n  switch i8 %x, label %a [\n  target ?\n",
         "line 3, byte 10",
@@ -101,7 +140,12 @@ fn fronts_of_the_sum_have_an_answer(rt: HostRuntime) {
         let whole = !found.starts_with("line");
         assert!(rt; whole == WHOLE.contains(&len), "{found} at {len}");
     }
-    for (len, want) in [(59, "line 3: end"), (69, "line 4: end"), (9, "line 1: v"), (51, "line 4: end")] {
+    for (len, want) in [
+        (59, "line 3: end"),
+        (69, "line 4: end"),
+        (9, "line 1: v"),
+        (51, "line 4: end"),
+    ] {
         let front = SUM.get(..len).expect(&rt, "the sum is ASCII");
         let found = told(&rt, rt.alloc(), front);
         assert!(rt; found.as_str() == want, "{found} at {len}");

@@ -42,8 +42,10 @@ fn counts(rt: &impl Abort, alloc: Global, m: &Module) -> String {
     }
     let (types, globals) = (m.types().len(), m.globals().len());
     let (declares, funcs) = (m.declares().len(), m.funcs().len());
-    format!(in alloc; "{types} {globals} {declares} {funcs} {blocks} {insts}")
-        .expect(rt, "no memory for a text")
+    format!(in alloc; "{types} {globals} {declares} {funcs} {blocks} {insts}").expect(
+        rt,
+        "no memory for a text",
+    )
 }
 
 /// The counts of a text's module, or why it has none.
