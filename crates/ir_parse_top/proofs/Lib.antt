@@ -10,3 +10,4 @@ mod Groups
 mod SwitchLines
 mod FunctionLines
 mod TreeLines
+mod TextLaws

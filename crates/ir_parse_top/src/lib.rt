@@ -14,6 +14,7 @@ mod functions;
 mod globals;
 mod initialisers;
 mod inside;
+mod laws;
 mod lines;
 mod outside;
 mod passing;
@@ -21,5 +22,6 @@ mod switches;
 mod whole;
 
 pub use errors::ParseError;
+pub use laws::{module_is_small, numerals_are_names, text_or_unfit};
 pub use lines::{read_body_line, read_top_line};
 pub use whole::parse_module;
