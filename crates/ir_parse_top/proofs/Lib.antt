@@ -11,3 +11,4 @@ mod SwitchLines
 mod FunctionLines
 mod TreeLines
 mod TextLaws
+mod CountLaws

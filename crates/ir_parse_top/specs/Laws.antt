@@ -36,6 +36,10 @@ insts_of_funcs = flat_map (λ f. insts_of_blocks f.blocks)
 abbrev pub instruction_count : ModuleParts → ℕ
 instruction_count m = length (insts_of_funcs m.funcs)
 
+-- a text stands for a module of no more instructions than the text has bytes
+abbrev pub ModulesAreWithin : Type 0
+ModulesAreWithin = (text : List ℕ) (m : ModuleParts) → Text text m → instruction_count m ≤ length text
+
 -- a text of at most 4 MiB stands for a module of at most as many instructions
 abbrev pub ModulesAreSmall : Type 0
 ModulesAreSmall = (text : List ℕ) (m : ModuleParts) → length text ≤ 4194304 → Text text m → instruction_count m ≤ 4194304
