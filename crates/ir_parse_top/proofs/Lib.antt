@@ -12,3 +12,4 @@ mod FunctionLines
 mod TreeLines
 mod TextLaws
 mod CountLaws
+mod NumeralLaws
