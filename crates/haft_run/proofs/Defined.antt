@@ -1,92 +1,111 @@
--- Code that is ready comes to no undefined step, and what makes code ready.
-use Rattle.std.proofs.Common.{ℕ, zero, suc, ◌≡◌, List, [], ◌∷◌, Option, Some, true, false, drop, slice_get, refl, sym, subst}
-use Rattle.ir_core.specs.declared.types.Width.TheVariants.{W64}
+-- Code that is ready comes to undefined steps only for allowed causes, and what makes code ready.
+use Rattle.std.proofs.Common.{ℕ, zero, suc, ◌≡◌, ◌%◌, ◌^◌, List, [], ◌∷◌, Option, Some, true, false, drop, slice_get, refl, sym, subst}
+use Rattle.ir_core.specs.declared.types.Width.{Width}
 use Rattle.ir_core.specs.declared.types.Loc.{Loc}
-use Rattle.ir_core.specs.declared.instruction.BinOp.{BinOp}
-use Rattle.ir_core.specs.declared.instruction.BinOp.TheVariants.{Add, Sub, Mul}
+use Rattle.ir_core.specs.declared.values.Val.{Val}
 use Rattle.ir_core.specs.declared.instruction.Inst.{Inst}
 use Rattle.ir_core.specs.Module.{ModuleParts}
+use Rattle.op_table.specs.Operators.{bits}
 use Rattle.ir_action.specs.declared.actions.Callee.{Callee}
+use Rattle.ir_action.specs.declared.actions.Fault.{Fault as Faults}
 use Rattle.ir_action.specs.declared.actions.Action.{Action}
 use Rattle.ir_action.specs.declared.actions.Action.TheVariants.{Assign, Ask, Return, Fault}
 use Rattle.ir_action.specs.declared.actions.Request.TheVariants.{Output as Given}
 use Rattle.ir_action.specs.Registers.{get, put}
-use Rattle.ir_action.specs.Action.{action_of, destination, on_word, operation}
-use Rattle.haft_run.specs.Built.{IsOperation}
-use Rattle.haft_run.specs.Source.{State, Frame, Running, Exiting, Answer, Went, Idle, Undefined, Ended, callees, code_of, assigned, done, fetched, exited, step, opening, run_from}
-use Rattle.haft_run.specs.Meaning.{NoneUndefined, IsDefined}
+use Rattle.ir_action.specs.Action.{action_of, destination, on_word, word_of, word_at}
+use Rattle.haft_run.specs.Source.{State, Frame, Running, Exiting, Answer, Went, Idle, Undefined, Ended, callees, code_of, assigned, done, fetched, exited, step, opening, run_from, source}
+use Rattle.haft_run.specs.Meaning.{NoneUndefined, UndefinedOnly, IsGood}
 use Rattle.haft_run.proofs.Places.{slice_get-drop, drop-suc}
 
 -- what has to hold of what is left of a block, by the action before it
-abbrev pub ready_after : Action → (ℕ → Type 0) → Type 0 → Type 0
-ready_after (Assign word) assigns asks = assigns word
-ready_after (Ask request) assigns asks = asks
-ready_after (Return word) assigns asks = Unit {0}
-ready_after (Fault fault) assigns asks = ⊥
+abbrev pub ready_after : (Faults → Type 0) → Action → (ℕ → Type 0) → Type 0 → Type 0
+ready_after allowed (Assign word) assigns asks = assigns word
+ready_after allowed (Ask request) assigns asks = asks
+ready_after allowed (Return word) assigns asks = Unit {0}
+ready_after allowed (Fault fault) assigns asks = allowed fault
 
--- what is left of a block returns, and meets no fault before
-abbrev pub Ready : List Callee → List (Option ℕ) → List Inst → Type 0
-Ready called registers [] = ⊥
-Ready called registers (inst ∷ rest) =
-    ready_after (action_of called registers inst) (λ word. Ready called (assigned (destination inst) word registers) rest) (Ready called registers rest)
+-- what is left of a block returns, and meets only allowed faults before
+abbrev pub Ready : (Faults → Type 0) → List Callee → List (Option ℕ) → List Inst → Type 0
+Ready allowed called registers [] = ⊥
+Ready allowed called registers (inst ∷ rest) =
+    ready_after allowed (action_of called registers inst) (λ word. Ready allowed called (assigned (destination inst) word registers) rest) (Ready allowed called registers rest)
 
 -- the program has ended, or its one thread stands before code that is ready or has returned
-pub data Fine (m : ModuleParts) (s : State) : Type 0 where
-  HasEnded : s.ended ≡ true → Fine m s
-  Runs : (frame : Frame) → s.ended ≡ false → s.threads ≡ Running frame ∷ [] → frame.function ≡ 0 → frame.block ≡ 0 → Ready (callees m) frame.registers (drop frame.index (code_of m 0 0)) → Fine m s
-  Exits : (word : ℕ) → s.ended ≡ false → s.threads ≡ Exiting word ∷ [] → Fine m s
+pub data Fine (allowed : Faults → Type 0) (m : ModuleParts) (s : State) : Type 0 where
+  HasEnded : s.ended ≡ true → Fine allowed m s
+  Runs : (frame : Frame) → s.ended ≡ false → s.threads ≡ Running frame ∷ [] → frame.function ≡ 0 → frame.block ≡ 0 → Ready allowed (callees m) frame.registers (drop frame.index (code_of m 0 0)) → Fine allowed m s
+  Exits : (word : ℕ) → s.ended ≡ false → s.threads ≡ Exiting word ∷ [] → Fine allowed m s
 
--- a turn comes to a fine state, and was defined
-record IsWell (m : ModuleParts) (turn : State × Answer) : Type 0 where
-  fine : Fine m turn.0
-  defined : NoneUndefined (turn.1 ∷ [])
+-- a turn comes to a fine state, and was defined or undefined for an allowed cause
+record IsWell (allowed : Faults → Type 0) (m : ModuleParts) (turn : State × Answer) : Type 0 where
+  fine : Fine allowed m turn.0
+  only : UndefinedOnly allowed (turn.1 ∷ [])
 
 -- an action that the code is ready for is done
-done-IsWell : (m : ModuleParts) (s : State) (dst : Option Loc) (frame : Frame) (action : Action) (rest : List Inst) → s.ended ≡ false → ((x : Frame) × (s.threads ≡ Running x ∷ [])) → frame.function ≡ 0 → frame.block ≡ 0 → drop (suc frame.index) (code_of m 0 0) ≡ rest → ready_after action (λ word. Ready (callees m) (assigned dst word frame.registers) rest) (Ready (callees m) frame.registers rest) → IsWell m (done s 0 dst frame action)
-done-IsWell m s dst frame (Assign word) rest goes (x, alone) f b left ready = record {
+done-IsWell : (allowed : Faults → Type 0) (m : ModuleParts) (s : State) (dst : Option Loc) (frame : Frame) (action : Action) (rest : List Inst) → Fine allowed m s → s.ended ≡ false → ((x : Frame) × (s.threads ≡ Running x ∷ [])) → frame.function ≡ 0 → frame.block ≡ 0 → drop (suc frame.index) (code_of m 0 0) ≡ rest → ready_after allowed action (λ word. Ready allowed (callees m) (assigned dst word frame.registers) rest) (Ready allowed (callees m) frame.registers rest) → IsWell allowed m (done s 0 dst frame action)
+done-IsWell allowed m s dst frame (Assign word) rest fine goes (x, alone) f b left ready = record {
   fine = Runs (record frame { index = suc frame.index; registers = assigned dst word frame.registers }) goes (rw alone refl) f b (rw left ready);
-  defined = tt;
+  only = tt;
 }
-done-IsWell m s dst frame (Ask request) rest goes (x, alone) f b left ready = record {
+done-IsWell allowed m s dst frame (Ask request) rest fine goes (x, alone) f b left ready = record {
   fine = Runs (record frame { index = suc frame.index }) goes (rw alone refl) f b (rw left ready);
-  defined = tt;
+  only = tt;
 }
-done-IsWell m s dst frame (Return word) rest goes (x, alone) f b left ready = record { fine = Exits word goes (rw alone refl); defined = tt }
-done-IsWell m s dst frame (Fault fault) rest goes (x, alone) f b left ready = absurd ready
+done-IsWell allowed m s dst frame (Return word) rest fine goes (x, alone) f b left ready = record { fine = Exits word goes (rw alone refl); only = tt }
+done-IsWell allowed m s dst frame (Fault fault) rest fine goes (x, alone) f b left ready = record { fine = fine; only = (ready, tt) }
 
 -- an instruction of ready code is done
-fetched-IsWell : (m : ModuleParts) (s : State) (frame : Frame) (left : List Inst) → s.ended ≡ false → s.threads ≡ Running frame ∷ [] → frame.function ≡ 0 → frame.block ≡ 0 → drop frame.index (code_of m 0 0) ≡ left → Ready (callees m) frame.registers left → IsWell m (fetched m s 0 frame (slice_get (code_of m 0 0) frame.index))
-fetched-IsWell m s frame [] goes alone f b here ready = absurd ready
-fetched-IsWell m s frame (inst ∷ rest) goes alone f b here ready =
+fetched-IsWell : (allowed : Faults → Type 0) (m : ModuleParts) (s : State) (frame : Frame) (left : List Inst) → Fine allowed m s → s.ended ≡ false → s.threads ≡ Running frame ∷ [] → frame.function ≡ 0 → frame.block ≡ 0 → drop frame.index (code_of m 0 0) ≡ left → Ready allowed (callees m) frame.registers left → IsWell allowed m (fetched m s 0 frame (slice_get (code_of m 0 0) frame.index))
+fetched-IsWell allowed m s frame [] fine goes alone f b here ready = absurd ready
+fetched-IsWell allowed m s frame (inst ∷ rest) fine goes alone f b here ready =
     rw (slice_get-drop (code_of m 0 0) frame.index inst rest here)
-    (done-IsWell m s (destination inst) frame (action_of (callees m) frame.registers inst) rest goes (frame, alone) f b (drop-suc (code_of m 0 0) frame.index inst rest here) ready)
+    (done-IsWell allowed m s (destination inst) frame (action_of (callees m) frame.registers inst) rest fine goes (frame, alone) f b (drop-suc (code_of m 0 0) frame.index inst rest here) ready)
 
-turn-IsWell : (m : ModuleParts) (turn other : State × Answer) → turn ≡ other → IsWell m other → IsWell m turn
-turn-IsWell m turn other e well = subst (λ (x : State × Answer). IsWell m x) (sym e) well
+turn-IsWell : (allowed : Faults → Type 0) (m : ModuleParts) (turn other : State × Answer) → turn ≡ other → IsWell allowed m other → IsWell allowed m turn
+turn-IsWell allowed m turn other e well = subst (λ (x : State × Answer). IsWell allowed m x) (sym e) well
 
 -- every turn of every thread
-step-IsWell : (m : ModuleParts) (s : State) (t : ℕ) → Fine m s → IsWell m (step m s t)
-step-IsWell m s t (HasEnded e) = turn-IsWell m _ (s, Idle) (rw e refl) (record { fine = HasEnded e; defined = tt })
-step-IsWell m s zero (Runs frame goes alone f b ready) =
-    turn-IsWell m _ (fetched m s 0 frame (slice_get (code_of m 0 0) frame.index)) (rw (goes, alone, f, b) refl)
-    (fetched-IsWell m s frame (drop frame.index (code_of m 0 0)) goes alone f b refl ready)
-step-IsWell m s (suc t) (Runs frame goes alone f b ready) = turn-IsWell m _ (s, Idle) (rw (goes, alone) refl) (record { fine = Runs frame goes alone f b ready; defined = tt })
-step-IsWell m s zero (Exits word goes alone) = turn-IsWell m _ (exited s zero word) (rw (goes, alone) refl) (record { fine = HasEnded refl; defined = tt })
-step-IsWell m s (suc t) (Exits word goes alone) = turn-IsWell m _ (s, Idle) (rw (goes, alone) refl) (record { fine = Exits word goes alone; defined = tt })
+step-IsWell : (allowed : Faults → Type 0) (m : ModuleParts) (s : State) (t : ℕ) → Fine allowed m s → IsWell allowed m (step m s t)
+step-IsWell allowed m s t (HasEnded e) = turn-IsWell allowed m _ (s, Idle) (rw e refl) (record { fine = HasEnded e; only = tt })
+step-IsWell allowed m s zero (Runs frame goes alone f b ready) =
+    turn-IsWell allowed m _ (fetched m s 0 frame (slice_get (code_of m 0 0) frame.index)) (rw (goes, alone, f, b) refl)
+    (fetched-IsWell allowed m s frame (drop frame.index (code_of m 0 0)) (Runs frame goes alone f b ready) goes alone f b refl ready)
+step-IsWell allowed m s (suc t) (Runs frame goes alone f b ready) = turn-IsWell allowed m _ (s, Idle) (rw (goes, alone) refl) (record { fine = Runs frame goes alone f b ready; only = tt })
+step-IsWell allowed m s zero (Exits word goes alone) = turn-IsWell allowed m _ (exited s zero word) (rw (goes, alone) refl) (record { fine = HasEnded refl; only = tt })
+step-IsWell allowed m s (suc t) (Exits word goes alone) = turn-IsWell allowed m _ (s, Idle) (rw (goes, alone) refl) (record { fine = Exits word goes alone; only = tt })
 
 -- an answer before others
-NoneUndefined-cons : (answer : Answer) (answers : List Answer) → NoneUndefined (answer ∷ []) → NoneUndefined answers → NoneUndefined (answer ∷ answers)
-NoneUndefined-cons Went answers h rest = rest
-NoneUndefined-cons Idle answers h rest = rest
-NoneUndefined-cons (Undefined fault) answers h rest = h
-NoneUndefined-cons (Ended code) answers h rest = rest
+UndefinedOnly-cons : (allowed : Faults → Type 0) (answer : Answer) (answers : List Answer) → UndefinedOnly allowed (answer ∷ []) → UndefinedOnly allowed answers → UndefinedOnly allowed (answer ∷ answers)
+UndefinedOnly-cons allowed Went answers h rest = rest
+UndefinedOnly-cons allowed Idle answers h rest = rest
+UndefinedOnly-cons allowed (Undefined fault) answers h rest = (h.0, rest)
+UndefinedOnly-cons allowed (Ended code) answers h rest = rest
 
--- so every turn of a list is defined, one after another
-pub run_from-defined : (m : ModuleParts) (s : State) (turns : List ℕ) → Fine m s → NoneUndefined (run_from m s turns).answers
-run_from-defined m s [] fine = tt
-run_from-defined m s (t ∷ turns) fine =
-    let well = step-IsWell m s t fine in
-    NoneUndefined-cons (step m s t).1 (run_from m (step m s t).0 turns).answers well.defined (run_from-defined m (step m s t).0 turns well.fine)
+-- so is every turn of a list, one after another
+run_from-only : (allowed : Faults → Type 0) (m : ModuleParts) (s : State) (turns : List ℕ) → Fine allowed m s → UndefinedOnly allowed (run_from m s turns).answers
+run_from-only allowed m s [] fine = tt
+run_from-only allowed m s (t ∷ turns) fine =
+    let well = step-IsWell allowed m s t fine in
+    UndefinedOnly-cons allowed (step m s t).1 (run_from m (step m s t).0 turns).answers well.only (run_from-only allowed m (step m s t).0 turns well.fine)
+
+-- a module whose code is ready comes to undefined steps only for allowed causes
+pub ready_only : (allowed : Faults → Type 0) (m : ModuleParts) → Ready allowed (callees m) [] (code_of m 0 0) → (turns : List ℕ) → UndefinedOnly allowed (source m turns).answers
+ready_only allowed m ready = λ turns. run_from-only allowed m opening turns (Runs _ refl refl refl refl ready)
+
+-- no cause at all
+abbrev pub NoCause : Faults → Type 0
+NoCause fault = ⊥
+
+none-undefined : (answers : List Answer) → UndefinedOnly NoCause answers → NoneUndefined answers
+none-undefined [] h = tt
+none-undefined (Went ∷ answers) h = none-undefined answers h
+none-undefined (Idle ∷ answers) h = none-undefined answers h
+none-undefined (Undefined fault ∷ answers) h = h.0
+none-undefined (Ended code ∷ answers) h = none-undefined answers h
+
+-- where no cause is allowed, the module is good
+pub ready_is_good : (m : ModuleParts) → Ready NoCause (callees m) [] (code_of m 0 0) → IsGood m
+ready_is_good m ready = λ turns. none-undefined (source m turns).answers (ready_only NoCause m ready turns)
 
 -- a register has a word
 pub data HasWord (found : Option ℕ) : Type 0 where
@@ -107,28 +126,28 @@ put-HasWord (old ∷ registers) zero word (suc k) h = h
 put-HasWord (old ∷ registers) (suc at) word zero h = h
 put-HasWord (old ∷ registers) (suc at) word (suc k) h = put-HasWord registers at word k h
 
--- no turn of a module whose code is ready comes to an undefined step
-pub ready_is_defined : (m : ModuleParts) → Ready (callees m) [] (code_of m 0 0) → IsDefined m
-ready_is_defined m ready = λ turns. run_from-defined m opening turns (Runs _ refl refl refl refl ready)
+-- an operand has a word at each width
+pub word_at-HasWord : (registers : List (Option ℕ)) (w : Width) (value : Val) → HasWord (word_of registers value) → HasWord (word_at registers w value)
+word_at-HasWord registers w value (Word word e) = Word (word % 2 ^ bits w) (rw e refl)
 
--- an action assigns
-pub data Assigns (action : Action) : Type 0 where
-  Takes : (word : ℕ) → action ≡ Assign word → Assigns action
+-- an action assigns, or is a fault that is allowed
+pub data Assigns (allowed : Faults → Type 0) (action : Action) : Type 0 where
+  Takes : (word : ℕ) → action ≡ Assign word → Assigns allowed action
+  Allowed : (fault : Faults) → action ≡ Fault fault → allowed fault → Assigns allowed action
 
-operation-Assigns : (op : BinOp) (x y : ℕ) → IsOperation op → Assigns (operation op W64 x y)
-operation-Assigns Add x y is = Takes _ refl
-operation-Assigns Sub x y is = Takes _ refl
-operation-Assigns Mul x y is = Takes _ refl
-operation-Assigns op x y is = absurd is
-
--- on two words an operation assigns
-pub on_word-Assigns : (left right : Option ℕ) (op : BinOp) → HasWord left → HasWord right → IsOperation op → Assigns (on_word left (λ x. on_word right (λ y. operation op W64 x y)))
-on_word-Assigns left right op (Word x e) (Word y f) is = rw (e, f) (operation-Assigns op x y is)
+-- an action on a word that is there
+pub on_word-Assigns : (allowed : Faults → Type 0) (found : Option ℕ) (ask : ℕ → Action) → HasWord found → ((word : ℕ) → Assigns allowed (ask word)) → Assigns allowed (on_word found ask)
+on_word-Assigns allowed found ask (Word word e) h = rw e (h word)
 
 -- what is left of a block after an assignment to a register
-pub assigned-ready : (called : List Callee) (registers : List (Option ℕ)) (dst : Loc) (action : Action) (rest : List Inst) → Assigns action → ((word : ℕ) → Ready called (put registers dst.0 word) rest) → ready_after action (λ word. Ready called (put registers dst.0 word) rest) (Ready called registers rest)
-assigned-ready called registers dst action rest (Takes word e) h = rw e (h word)
+pub assigned-ready : (allowed : Faults → Type 0) (called : List Callee) (registers : List (Option ℕ)) (dst : Loc) (action : Action) (rest : List Inst) → Assigns allowed action → ((word : ℕ) → Ready allowed called (put registers dst.0 word) rest) → ready_after allowed action (λ word. Ready allowed called (put registers dst.0 word) rest) (Ready allowed called registers rest)
+assigned-ready allowed called registers dst action rest (Takes word e) h = rw e (h word)
+assigned-ready allowed called registers dst action rest (Allowed fault e is) h = rw e is
 
 -- what is left of a block after an output of a word
-pub output-ready : (registers : List (Option ℕ)) (found : Option ℕ) (assigns : ℕ → Type 0) (asks : Type 0) → HasWord found → asks → ready_after (on_word found (λ word. Ask (Given word))) assigns asks
-output-ready registers found assigns asks (Word word e) h = rw e h
+pub output-ready : (allowed : Faults → Type 0) (found : Option ℕ) (assigns : ℕ → Type 0) (asks : Type 0) → HasWord found → asks → ready_after allowed (on_word found (λ word. Ask (Given word))) assigns asks
+output-ready allowed found assigns asks (Word word e) h = rw e h
+
+-- nothing is asked of what is left behind a return of a word
+pub return-ready : (allowed : Faults → Type 0) (found : Option ℕ) (assigns : ℕ → Type 0) (asks : Type 0) → HasWord found → ready_after allowed (on_word found Return) assigns asks
+return-ready allowed found assigns asks (Word word e) = rw e tt

@@ -1,12 +1,11 @@
 -- Images that are written one behind another.
-use Rattle.std.proofs.Common.{ℕ, ◌≡◌, ◌+◌, ◌<◌, length, drop, slice_index_or, List, [], ◌∷◌, ◌++◌, refl, ap, sym, ◌∙◌, append_assoc}
+use Rattle.std.proofs.Common.{ℕ, ◌≡◌, ◌+◌, ◌<◌, length, drop, slice_index_or, Bool, true, false, List, [], ◌∷◌, ◌++◌, refl, ap, sym, ◌∙◌, append_assoc}
 use Rattle.ir_core.specs.declared.types.Ty.{Ty}
 use Rattle.ir_core.specs.declared.values.Val.{Val}
 use Rattle.ir_core.specs.declared.values.Val.TheVariants as values
 use Rattle.ir_core.specs.declared.instruction.Inst.{Inst}
-use Rattle.ir_core.specs.declared.instruction.Inst.TheVariants as insts
 use Rattle.hard_ir.specs.declared.instruction.HInst.{HInst}
-use Rattle.hard_ir.specs.Image.{check, checks, checked, doubled, image, images}
+use Rattle.hard_ir.specs.Image.{check, checks, checked, is_doubled, done_by, doubled, image, images}
 use Rattle.std.proofs.lemmas.List.{at_drop_more}
 
 pub check-append : (ty : Ty) (value : Val) (rest : List HInst) → check ty value [] ++ rest ≡ check ty value rest
@@ -22,9 +21,12 @@ checks-append [] list rest = refl
 checks-append (operand ∷ operands) list rest =
     check-checks operand.0 operand.1 (checks operands list) rest ∙ ap (check operand.0 operand.1) (checks-append operands list rest)
 
+done_by-append : (twice : Bool) (inst : Inst) (list rest : List HInst) → done_by twice inst list ++ rest ≡ done_by twice inst (list ++ rest)
+done_by-append true inst list rest = refl
+done_by-append false inst list rest = refl
+
 pub doubled-append : (inst : Inst) (list rest : List HInst) → doubled inst list ++ rest ≡ doubled inst (list ++ rest)
-doubled-append (insts.Bin dst op flags w a b) list rest = refl
-doubled-append inst list rest = refl
+doubled-append inst list rest = done_by-append (is_doubled inst) inst list rest
 
 -- what follows an image
 pub image-append : (inst : Inst) (rest : List HInst) → image inst [] ++ rest ≡ image inst rest

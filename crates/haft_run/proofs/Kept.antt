@@ -1,21 +1,23 @@
 -- What a turn keeps: one lemma for each effect that a turn has on the whole machine.
-use Rattle.std.proofs.Common.{ℕ, zero, suc, ◌≡◌, ◌<◌, ◌%◌, ◌^◌, List, [], ◌∷◌, ◌++◌, Some, true, refl, ap, sym, ◌∙◌, subst, length, slice_set, drop, arith}
+use Rattle.std.proofs.Common.{ℕ, zero, suc, ◌≡◌, ◌<◌, ◌%◌, ◌^◌, List, [], ◌∷◌, ◌++◌, Some, true, refl, ap, sym, ◌∙◌, subst, length, slice_set, drop, append-nil, append_assoc, arith}
 use Rattle.ir_core.specs.declared.instruction.Inst.{Inst}
 use Rattle.ir_core.specs.Module.{ModuleParts}
 use Rattle.ir_action.specs.declared.actions.Fault.{Fault as Faults}
 use Rattle.ir_action.specs.declared.actions.Action.{Action}
 use Rattle.ir_action.specs.Action.{action_of, destination}
 use Rattle.hard_ir.specs.declared.instruction.HInst.{HInst}
+use Rattle.hard_ir.specs.declared.instruction.HBlock.{HBlock}
 use Rattle.haft_run.specs.declared.state.Frame.{Frame}
 use Rattle.haft_run.specs.declared.state.Thread.{Thread}
 use Rattle.haft_run.specs.declared.state.Thread.TheVariants.{Absent, Running, Exiting}
 use Rattle.haft_run.specs.Source as source
 use Rattle.haft_run.specs.Source.{State, Answer, Went, Idle, Undefined, Ended, step, run_from, World, world_after}
 use Rattle.haft_run.specs.Hard as hard
-use Rattle.haft_run.specs.Hard.{Machine, Turn, event}
+use Rattle.haft_run.specs.Hard.{Machine, Event, Turn, event}
 use Rattle.haft_run.specs.Turns.{hardened_functions}
-use Rattle.haft_run.specs.Meaning.{AllWent, code_of, NoneUndefined, IsDefined}
+use Rattle.haft_run.specs.Meaning.{AllWent, code_of, NoneUndefined, IsGood, IsUndefinedOn}
 use Rattle.ir_action.specs.declared.actions.Fault.TheVariants.{Unsupported}
+use Rattle.haft_run.proofs.Events.{event-Grows}
 use Rattle.haft_run.proofs.Places.{slice_get-drop, slice_get-drop_none}
 use Rattle.haft_run.proofs.Lists.{SetAt, Same, Other, set_at}
 use Rattle.haft_run.proofs.Points.{Both, RunsAt, Stands, BothAbsent, BothRun, Reached, EachWent, Goes, Ends}
@@ -49,18 +51,52 @@ code_of-append (Idle ∷ answers) code h = absurd h
 code_of-append (Undefined fault ∷ answers) code h = absurd h
 code_of-append (Ended other ∷ answers) code h = absurd h
 
-NoneUndefined-append : (answers : List Answer) (fault : Faults) → EachWent answers → NoneUndefined (answers ++ Undefined fault ∷ []) → ⊥
-NoneUndefined-append [] fault h n = n
-NoneUndefined-append (Went ∷ answers) fault h n = NoneUndefined-append answers fault h n
-NoneUndefined-append (Idle ∷ answers) fault h n = h
-NoneUndefined-append (Undefined other ∷ answers) fault h n = h
-NoneUndefined-append (Ended code ∷ answers) fault h n = h
+NoneUndefined-append : (answers : List Answer) (fault : Faults) → NoneUndefined (answers ++ Undefined fault ∷ []) → ⊥
+NoneUndefined-append [] fault n = n
+NoneUndefined-append (Went ∷ answers) fault n = NoneUndefined-append answers fault n
+NoneUndefined-append (Idle ∷ answers) fault n = NoneUndefined-append answers fault n
+NoneUndefined-append (Undefined other ∷ answers) fault n = n
+NoneUndefined-append (Ended code ∷ answers) fault n = NoneUndefined-append answers fault n
 
--- a module without undefined steps comes to none
-pub never_undefined : (m : ModuleParts) (h : Machine) (s : State) (answers : List Answer) (t : ℕ) (fault : Faults) → IsDefined m → Goes m h s answers → step m s t ≡ (s, Undefined fault) → ⊥
-never_undefined m h s answers t fault d g e =
-    NoneUndefined-append answers fault g.went
-    (subst (λ (run : source.Run). NoneUndefined run.answers) (Reached-step m h.turns s s answers t (Undefined fault) g.reached e).is (d (h.turns ++ t ∷ [])))
+pub EachWent-AllWent : (answers : List Answer) → EachWent answers → AllWent answers
+EachWent-AllWent [] h = tt
+EachWent-AllWent (Went ∷ answers) h = EachWent-AllWent answers h
+EachWent-AllWent (Idle ∷ answers) h = h
+EachWent-AllWent (Undefined fault ∷ answers) h = h
+EachWent-AllWent (Ended code ∷ answers) h = absurd h
+
+-- a module that is undefined on some turns isn't good
+pub never_undefined : (m : ModuleParts) (turns : List ℕ) → IsGood m → IsUndefinedOn m turns → ⊥
+never_undefined m turns good u =
+    let before = (source.source m u.front).answers in
+    let run : (source.source m (u.front ++ u.thread ∷ [])).answers ≡ before ++ Undefined u.fault ∷ [] =
+    ap (λ (r : source.Run). r.answers) (run_from-append m source.opening u.front u.thread) ∙ ap (λ answer. before ++ answer ∷ []) u.undefined in
+    NoneUndefined-append before u.fault (subst (λ (answers : List Answer). NoneUndefined answers) run (good (u.front ++ u.thread ∷ [])))
+
+-- an undefined step of a machine that goes on is one on its turns
+pub is_undefined : (m : ModuleParts) (h : Machine) (s : State) (answers : List Answer) (t : ℕ) (fault : Faults) → Goes m h s answers → step m s t ≡ (s, Undefined fault) → IsUndefinedOn m h.turns
+is_undefined m h s answers t fault g e = record {
+  front = h.turns;
+  rest = [];
+  whole = sym (append-nil h.turns);
+  went = rw g.reached.is (EachWent-AllWent answers g.went);
+  thread = t;
+  fault = fault;
+  undefined = rw (g.reached.is, e) refl;
+}
+
+-- and so it is on the turns that an event adds
+pub still_undefined : (m : ModuleParts) (functions : List (List HBlock)) (h : Machine) (e : Event) → IsUndefinedOn m h.turns → IsUndefinedOn m (event m functions h e).turns
+still_undefined m functions h e u =
+    let g = event-Grows m functions h e in record {
+      front = u.front;
+      rest = u.rest ++ g.more;
+      whole = g.is ∙ ap (λ turns. turns ++ g.more) u.whole ∙ append_assoc u.front u.rest g.more;
+      went = u.went;
+      thread = u.thread;
+      fault = u.fault;
+      undefined = u.undefined;
+    }
 
 -- a thread that runs or exits is one of the list
 source-in-range : (threads : List source.Thread) (t : ℕ) (x : source.Thread) → source.thread_at threads t ≡ x → (x ≡ source.Absent → ⊥) → t < length threads

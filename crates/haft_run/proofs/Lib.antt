@@ -1,6 +1,7 @@
 pub mod Grouping
 pub mod Events
 pub mod Agreement
+pub mod Unflagged
 pub mod Places
 pub mod Points
 pub mod Lists

@@ -2,23 +2,17 @@
 -- common. What is known of the registers is known of named sides: of both, or of one alone.
 use Rattle.std.proofs.Common.{ℕ, ◌≡◌, List, [], ◌∷◌, ◌++◌, Option, Some, None, true, false, drop}
 use Rattle.ir_core.specs.declared.types.Ty.{Ty}
-use Rattle.ir_core.specs.declared.types.Loc.{Loc}
-use Rattle.ir_core.specs.declared.types.Width.{Width}
 use Rattle.ir_core.specs.declared.values.Val.{Val}
 use Rattle.ir_core.specs.declared.values.Side.{Side}
 use Rattle.ir_core.specs.declared.values.Side.TheVariants.{M, S}
-use Rattle.ir_core.specs.declared.instruction.BinOp.{BinOp}
-use Rattle.ir_core.specs.declared.instruction.Flags.{Flags}
 use Rattle.ir_core.specs.declared.instruction.Inst.{Inst}
-use Rattle.ir_core.specs.declared.instruction.Inst.TheVariants as insts
 use Rattle.ir_core.specs.Module.{ModuleParts}
 use Rattle.ir_action.specs.declared.actions.Callee.{Callee}
 use Rattle.ir_action.specs.declared.actions.Action.TheVariants.{Assign}
-use Rattle.ir_action.specs.Registers.{put}
-use Rattle.ir_action.specs.Action.{action_of}
+use Rattle.ir_action.specs.Action.{action_of, destination}
 use Rattle.hard_ir.specs.declared.instruction.HInst.{HInst}
 use Rattle.hard_ir.specs.declared.instruction.HInst.TheVariants.{Do}
-use Rattle.hard_ir.specs.Image.{no_flags, doubled, checked, checks, images}
+use Rattle.hard_ir.specs.Image.{unflagged, doubled, checked, checks, images}
 use Rattle.haft_run.specs.declared.outcome.Stop.TheVariants.{End}
 use Rattle.haft_run.specs.declared.state.Frame.{Frame}
 use Rattle.haft_run.specs.declared.state.Thread.{Thread}
@@ -28,7 +22,7 @@ use Rattle.haft_run.specs.Source.{State, Answer, Went, Idle, Undefined, Ended}
 use Rattle.haft_run.specs.Hard as hard
 use Rattle.haft_run.specs.Hard.{Machine}
 use Rattle.haft_run.specs.Turns.{hardened_functions}
-use Rattle.haft_run.specs.Meaning.{AllWent, code_of}
+use Rattle.haft_run.specs.Meaning.{AllWent, code_of, IsUndefinedOn}
 use Rattle.haft_run.proofs.Agreement.{Agrees}
 
 -- which sides of a frame are known to stand in the source
@@ -52,11 +46,11 @@ pub data Point (sides : Sides) (callees : List Callee) (registers : List (Option
       → code ≡ inst ∷ rest → checked inst ≡ passed ++ left → list ≡ checks left (doubled inst (images rest))
       → On sides M (Agrees frame.master registers) → On sides S (Agrees frame.shadow registers)
       → Point sides callees registers frame code list
-  -- an operation was done on the master's registers
-  AtShadow : (dst : Loc) (op : BinOp) (flags : Flags) (w : Width) (a b : Val) (rest : List Inst) (word : ℕ)
-      → code ≡ insts.Bin dst op flags w a b ∷ rest → list ≡ Do S (insts.Bin dst op no_flags w a b) true ∷ images rest
-      → action_of callees registers (insts.Bin dst op flags w a b) ≡ Assign word
-      → On sides M (Agrees frame.master (put registers dst.0 word)) → On sides S (Agrees frame.shadow registers)
+  -- an instruction that is done on each side was done on the master's registers
+  AtShadow : (inst : Inst) (rest : List Inst) (word : ℕ)
+      → code ≡ inst ∷ rest → list ≡ Do S (unflagged inst) true ∷ images rest
+      → action_of callees registers inst ≡ Assign word
+      → On sides M (Agrees frame.master (source.assigned (destination inst) word registers)) → On sides S (Agrees frame.shadow registers)
       → Point sides callees registers frame code list
   -- nothing is left
   AtEnd : code ≡ [] → list ≡ [] → Point sides callees registers frame code list
@@ -105,3 +99,5 @@ pub record Ends (m : ModuleParts) (h : Machine) (s : State) (answers : List Answ
 pub data Simulates (m : ModuleParts) (h : Machine) : Type 0 where
   IsGoing : (s : State) (answers : List Answer) → Goes m h s answers → Simulates m h
   IsOver : (s : State) (answers : List Answer) (code : ℕ) → Ends m h s answers code → Simulates m h
+  -- the source is undefined on the machine's turns
+  IsPast : IsUndefinedOn m h.turns → Simulates m h

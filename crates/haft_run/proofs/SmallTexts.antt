@@ -1,5 +1,6 @@
 -- A small text comes to no undefined step: each register that a line reads was given a word before.
 use Rattle.std.proofs.Common.{ℕ, zero, suc, ◌≡◌, List, [], ◌∷◌, ◌++◌, Option, Some, codes, length, slice_get, refl, ap, sym, subst}
+use Rattle.ir_core.specs.declared.types.Width.TheVariants.{W64}
 use Rattle.ir_core.specs.declared.types.Ty.{Ty}
 use Rattle.ir_core.specs.declared.values.Val.{Val}
 use Rattle.ir_core.specs.declared.values.Val.TheVariants as values
@@ -11,12 +12,13 @@ use Rattle.ir_core.proofs.Numbering.{slice_get-number_of}
 use Rattle.ir_action.specs.declared.actions.Callee.{Callee}
 use Rattle.ir_action.specs.declared.actions.Callee.TheVariants.{HaftOut, Unknown}
 use Rattle.ir_action.specs.Registers.{get, put}
-use Rattle.ir_action.specs.Action.{word_of}
+use Rattle.op_table.specs.Operators.{binary}
+use Rattle.ir_action.specs.Action.{word_of, word_at, operated}
+use Rattle.hard_ir.specs.Image.{no_flags}
 use Rattle.small_text.specs.Numbers.{IsName}
 use Rattle.small_text.specs.SmallText.{SmallText, IsValue, Number, Register, IsOperation, Adds, Subtracts, Multiplies, IsLine, Operation, Output, AreLines, module_of}
-use Rattle.haft_run.specs.Built as built
-use Rattle.haft_run.specs.Meaning.{IsDefined}
-use Rattle.haft_run.proofs.Defined.{Ready, ready_is_defined, HasWord, Word, put-here, put-HasWord, on_word-Assigns, assigned-ready, output-ready}
+use Rattle.haft_run.specs.Meaning.{IsGood}
+use Rattle.haft_run.proofs.Defined.{Ready, NoCause, ready_is_good, HasWord, Word, put-here, put-HasWord, word_at-HasWord, Assigns, Takes, on_word-Assigns, assigned-ready, output-ready}
 
 -- what the names `haft_out` and `main` stand for where they are called
 abbrev small_callees : List Callee
@@ -66,30 +68,33 @@ value-HasWord : (names : List (List ℕ)) (registers : List (Option ℕ)) (text 
 value-HasWord names registers text value knows (Number number is fits e) = rw e (Word number refl)
 value-HasWord names registers text value knows (Register name at whole is numbered e) = rw e (knows.known name at is (slice_get-number_of names name at numbered))
 
--- the operations of a small text are built
-is_operation : (word : List ℕ) (op : BinOp) → IsOperation word op → built.IsOperation op
-is_operation word op (Adds e f) = rw f tt
-is_operation word op (Subtracts e f) = rw f tt
-is_operation word op (Multiplies e f) = rw f tt
+-- the operations of a small text have a result on any words
+operated-Assigns : (word : List ℕ) (op : BinOp) (x y : ℕ) → IsOperation word op → Assigns NoCause (operated (binary op no_flags 64 x y))
+unfolding binary
+operated-Assigns word op x y (Adds e f) = rw f (Takes _ refl)
+operated-Assigns word op x y (Subtracts e f) = rw f (Takes _ refl)
+operated-Assigns word op x y (Multiplies e f) = rw f (Takes _ refl)
 
 -- a line is ready where what comes after it is
-line-ready : (names : List (List ℕ)) (line : List ℕ) (inst : Inst) (after : List (List ℕ)) (registers : List (Option ℕ)) (rest : List Inst) → Knows names registers → ((next : List (Option ℕ)) → Knows after next → Ready small_callees next rest) → IsLine names line inst after → Ready small_callees registers (inst ∷ rest)
+line-ready : (names : List (List ℕ)) (line : List ℕ) (inst : Inst) (after : List (List ℕ)) (registers : List (Option ℕ)) (rest : List Inst) → Knows names registers → ((next : List (Option ℕ)) → Knows after next → Ready NoCause small_callees next rest) → IsLine names line inst after → Ready NoCause small_callees registers (inst ∷ rest)
 line-ready names line inst after registers rest knows goes_on (Operation name word left right op a b whole is new operates first second e f) =
-    rw e (assigned-ready small_callees registers (record { 0 = length names }) _ rest
-    (on_word-Assigns (word_of registers a) (word_of registers b) op (value-HasWord names registers left a knows first) (value-HasWord names registers right b knows second) (is_operation word op operates))
+    rw e (assigned-ready NoCause small_callees registers (record { 0 = length names }) _ rest
+    (on_word-Assigns NoCause (word_at registers W64 a) _ (word_at-HasWord registers W64 a (value-HasWord names registers left a knows first))
+    (λ x. on_word-Assigns NoCause (word_at registers W64 b) _ (word_at-HasWord registers W64 b (value-HasWord names registers right b knows second))
+    (λ y. operated-Assigns word op x y operates)))
     (λ value. goes_on (put registers (length names) value) (rw f (Knows-put names registers name value knows))))
 line-ready names line inst after registers rest knows goes_on (Output text value whole is e f) =
-    rw e (output-ready registers (word_of registers value) _ _ (value-HasWord names registers text value knows is) (goes_on registers (rw f knows)))
+    rw e (output-ready NoCause (word_of registers value) _ _ (value-HasWord names registers text value knows is) (goes_on registers (rw f knows)))
 
 -- lines, then a return of a number
-lines-ready : (names : List (List ℕ)) (text : List ℕ) (lines : List Inst) (last : List (List ℕ)) (registers : List (Option ℕ)) (ty : Ty) (code : ℕ) → Knows names registers → AreLines names text lines last → Ready small_callees registers (lines ++ insts.Ret ty (Some (values.Int code)) ∷ [])
+lines-ready : (names : List (List ℕ)) (text : List ℕ) (lines : List Inst) (last : List (List ℕ)) (registers : List (Option ℕ)) (ty : Ty) (code : ℕ) → Knows names registers → AreLines names text lines last → Ready NoCause small_callees registers (lines ++ insts.Ret ty (Some (values.Int code)) ∷ [])
 lines-ready names text [] last registers ty code knows h = tt
 lines-ready names text (inst ∷ rest) last registers ty code knows (line, after, others, whole, is, more) =
     line-ready names line inst after registers (rest ++ insts.Ret ty (Some (values.Int code)) ∷ []) knows
     (λ next known. lines-ready after others rest last next ty code known more) is
 
 -- no turn of a small text comes to an undefined step
-pub small_is_defined : (text : List ℕ) (m : ModuleParts) → SmallText text m → IsDefined m
-small_is_defined text m small =
-    subst (λ (n : ModuleParts). IsDefined n) (sym small.stands_for)
-    (ready_is_defined (module_of small.names _) (lines-ready (codes "0" ∷ []) small.body small.lines small.names [] _ small.code Knows-label small.read))
+pub small_is_good : (text : List ℕ) (m : ModuleParts) → SmallText text m → IsGood m
+small_is_good text m small =
+    subst (λ (n : ModuleParts). IsGood n) (sym small.stands_for)
+    (ready_is_good (module_of small.names _) (lines-ready (codes "0" ∷ []) small.body small.lines small.names [] _ small.code Knows-label small.read))

@@ -1,10 +1,10 @@
 -- The tests of a module tell exactly the built modules.
-use Rattle.std.proofs.Common.{ℕ, ◌≡◌, ◌&&◌, not, List, [], ◌∷◌, ◌++◌, Option, Some, None, Bool, true, false, codes, Decides, refl, ap, ◌∙◌}
+use Rattle.std.proofs.Common.{ℕ, ◌≡◌, ◌&&◌, List, [], ◌∷◌, ◌++◌, Option, Some, None, Bool, true, false, IsTrue, codes, Decides, refl, ap, append_assoc, append-nil}
 use Rattle.std.proofs.lemmas.Bool.{not-true, not_from_false}
 use Rattle.std.proofs.lemmas.Bool.Decides.{Decides-and, Decides-like, Decides-eqb, Decides-not}
 use Rattle.std.proofs.lemmas.Slice.Eq.{bytes_eq-Decides}
 use Rattle.ir_core.specs.declared.types.Width.{Width}
-use Rattle.ir_core.specs.declared.types.Width.TheVariants.{W32, W64}
+use Rattle.ir_core.specs.declared.types.Width.TheVariants.{W1, W32, W64}
 use Rattle.ir_core.specs.declared.types.Ty.{Ty}
 use Rattle.ir_core.specs.declared.types.Ty.TheVariants as types
 use Rattle.ir_core.specs.declared.types.Sym.{Sym}
@@ -12,16 +12,14 @@ use Rattle.ir_core.specs.declared.types.Loc.{Loc}
 use Rattle.ir_core.specs.declared.values.Val.{Val}
 use Rattle.ir_core.specs.declared.values.Val.TheVariants as values
 use Rattle.ir_core.specs.declared.values.Declare.{Declare}
-use Rattle.ir_core.specs.declared.instruction.BinOp.{BinOp}
-use Rattle.ir_core.specs.declared.instruction.BinOp.TheVariants.{Add, Sub, Mul}
-use Rattle.ir_core.specs.declared.instruction.Flags.{Flags}
+use Rattle.ir_core.specs.declared.instruction.CastOp.{CastOp}
 use Rattle.ir_core.specs.declared.instruction.Block.{Block}
 use Rattle.ir_core.specs.declared.instruction.Inst.{Inst}
 use Rattle.ir_core.specs.declared.instruction.Inst.TheVariants as insts
 use Rattle.ir_core.specs.Module.{ModuleParts, FuncParts}
-use Rattle.hard_ir.specs.Image.{no_flags}
-use Rattle.haft_run.specs.Built.{name_of, is_assigned, IsOperand, Constant, Register, IsOperation, IsNew, IsOutput, AreDeclares, IsDeclared, IsLine, Operation, Output, AreLines, return_of, IsBody, IsMain, IsBuilt}
-use Rattle.haft_run.specs.Testing.{is_empty, is_wide, is_narrow, is_i64, is_i32, is_void, is_operation, is_plain, is_operand, is_new, is_argument, is_alone, is_output, are_declares, is_declared, is_none, is_line, is_constant, is_return, are_insts, is_one_block, is_main, is_program, is_built}
+use Rattle.ir_action.specs.Action.{int_width, is_conversion}
+use Rattle.haft_run.specs.Built.{name_of, is_assigned, is_assigned_at, IsOperand, Constant, Register, IsNew, IsOutput, AreDeclares, IsDeclared, IsArgument, OfInteger, IsLine, AreLines, return_of, IsBody, IsMain, IsBuilt}
+use Rattle.haft_run.specs.Testing.{is_empty, is_wide, is_narrow, is_i64, is_i32, is_void, is_operand, are_operands, is_new, at_width, is_argument, is_alone, is_output, are_declares, is_declared, is_none, is_line, is_return, are_insts, is_one_block, is_main, is_program, is_built}
 
 -- what never holds
 never : {P : Type 0} → (P → ⊥) → Decides false P
@@ -46,43 +44,25 @@ i32-Decides ty = elim ty as (λ ty. Decides (is_i32 ty) (ty ≡ types.Int W32)) 
 void-Decides : (ty : Ty) → Decides (is_void ty) (ty ≡ types.Void)
 void-Decides ty = elim ty as (λ ty. Decides (is_void ty) (ty ≡ types.Void)) [ types.Void ↦ (λ e. refl, λ e. refl) | _ ↦ (λ e. cc, λ e. cc) ]
 
-operation-Decides : (op : BinOp) → Decides (is_operation op) (IsOperation op)
-operation-Decides Add = (λ e. tt, λ e. refl)
-operation-Decides Sub = (λ e. tt, λ e. refl)
-operation-Decides Mul = (λ e. tt, λ e. refl)
-operation-Decides op = (λ e. cc, λ e. absurd e)
-
-plain_by : (nuw nsw exact : Bool) → Decides (not nuw && not nsw && not exact) ((nuw ≡ false) × (nsw ≡ false) × (exact ≡ false))
-plain_by false false false = (λ e. (refl, refl, refl), λ e. refl)
-plain_by true nsw exact = (λ e. cc, λ e. let f = e.0 in cc)
-plain_by false true exact = (λ e. cc, λ e. let f = e.1 in cc)
-plain_by false false true = (λ e. cc, λ e. let f = e.2 in cc)
-
-abbrev flags_of : Bool → Bool → Bool → Flags
-flags_of nuw nsw exact = record { nuw = nuw; nsw = nsw; exact = exact }
-
-no_flag : (flags : Flags) → (flags.nuw ≡ false) × (flags.nsw ≡ false) × (flags.exact ≡ false) → flags ≡ no_flags
-no_flag flags e = ap (λ b. flags_of b flags.nsw flags.exact) e.0 ∙ ap (λ b. flags_of false b flags.exact) e.1 ∙ ap (λ b. flags_of false false b) e.2
-
-plain-Decides : (flags : Flags) → Decides (is_plain flags) (flags ≡ no_flags)
-plain-Decides flags = Decides-like _ (no_flag flags) (λ e. (ap (λ (x : Flags). x.nuw) e, ap (λ (x : Flags). x.nsw) e, ap (λ (x : Flags). x.exact) e)) (plain_by flags.nuw flags.nsw flags.exact)
-
 empty-Decides : {A : Type 0} (xs : List A) → Decides (is_empty xs) (xs ≡ [])
 empty-Decides [] = (λ e. refl, λ e. refl)
 empty-Decides (x ∷ xs) = (λ e. cc, λ e. cc)
 
-register_operand : (before : List Inst) (value : Val) (register : Loc) → value ≡ values.Reg register → IsOperand before value → is_assigned before register.0 ≡ true
-register_operand before value register e (Constant number f) = cc
-register_operand before value register e (Register other f is) = let same : register ≡ other = cc in rw same is
+register_operand : (before : List Inst) (w : Width) (value : Val) (register : Loc) → value ≡ values.Reg register → IsOperand before w value → is_assigned_at before register.0 w ≡ true
+register_operand before w value register e (Constant number f) = cc
+register_operand before w value register e (Register other f is) = let same : register ≡ other = cc in rw same is
 
-no_operand : (before : List Inst) (value : Val) → ((number : ℕ) → value ≡ values.Int number → ⊥) → ((register : Loc) → value ≡ values.Reg register → ⊥) → IsOperand before value → ⊥
-no_operand before value n r (Constant number e) = n number e
-no_operand before value n r (Register register e is) = r register e
+no_operand : (before : List Inst) (w : Width) (value : Val) → ((number : ℕ) → value ≡ values.Int number → ⊥) → ((register : Loc) → value ≡ values.Reg register → ⊥) → IsOperand before w value → ⊥
+no_operand before w value n r (Constant number e) = n number e
+no_operand before w value n r (Register register e is) = r register e
 
-operand-Decides : (before : List Inst) (value : Val) → Decides (is_operand before value) (IsOperand before value)
-operand-Decides before (values.Reg register) = (λ e. Register register refl e, register_operand before (values.Reg register) register refl)
-operand-Decides before (values.Int number) = (λ e. Constant number refl, λ e. refl)
-operand-Decides before value = never (no_operand before value (λ number e. cc) (λ register e. cc))
+operand-Decides : (before : List Inst) (w : Width) (value : Val) → Decides (is_operand before w value) (IsOperand before w value)
+operand-Decides before w (values.Reg register) = (λ e. Register register refl e, register_operand before w (values.Reg register) register refl)
+operand-Decides before w (values.Int number) = (λ e. Constant number refl, λ e. refl)
+operand-Decides before w value = never (no_operand before w value (λ number e. cc) (λ register e. cc))
+
+operands-Decides : (before : List Inst) (w : Width) (a b : Val) → Decides (are_operands before w a b) (IsOperand before w a × IsOperand before w b)
+operands-Decides before w a b = Decides-and _ _ (operand-Decides before w a) (operand-Decides before w b)
 
 new-Decides : (label : Loc) (before : List Inst) (register : Loc) → Decides (is_new label before register) (IsNew label before register)
 new-Decides label before register =
@@ -113,139 +93,99 @@ declared-Decides (declare ∷ other ∷ declares) callee = never (λ e. e)
 
 -- ---- lines
 
--- an operation, part by part
-abbrev IsBin : Loc → List Inst → Loc → BinOp → Flags → Width → Val → Val → Type 0
-IsBin label before dst op flags w a b = ((((IsNew label before dst × IsOperation op) × (flags ≡ no_flags)) × (w ≡ W64)) × IsOperand before a) × IsOperand before b
+-- the width of an integer type
+integer_at : (width : Width) (test : Width → Bool) (fact : Width → Type 0) → ((w : Width) → Decides (test w) (fact w)) → OfInteger (types.Int width) fact → test width ≡ true
+integer_at width test fact h of = let same : width ≡ of.width = cc of.is in rw same ((h of.width).1 of.holds)
 
-bin-Decides : (m : ModuleParts) (label : Loc) (before : List Inst) (dst : Loc) (op : BinOp) (flags : Flags) (w : Width) (a b : Val) → Decides (is_line m label before (insts.Bin dst op flags w a b)) (IsBin label before dst op flags w a b)
-bin-Decides m label before dst op flags w a b =
-    Decides-and _ _ (Decides-and _ _ (Decides-and _ _ (Decides-and _ _ (Decides-and _ _
-    (new-Decides label before dst) (operation-Decides op)) (plain-Decides flags)) (wide-Decides w)) (operand-Decides before a)) (operand-Decides before b)
-
-bin_line : (m : ModuleParts) (label : Loc) (before : List Inst) (dst : Loc) (op : BinOp) (flags : Flags) (w : Width) (a b : Val) → IsBin label before dst op flags w a b → IsLine m label before (insts.Bin dst op flags w a b)
-bin_line m label before dst op flags w a b e = Operation dst op a b (rw (e.0.0.0.1, e.0.0.1) refl) e.0.0.0.0.0 e.0.0.0.0.1 e.0.1 e.1
-
-line_bin : (m : ModuleParts) (label : Loc) (before : List Inst) (line : Inst) (dst : Loc) (op : BinOp) (flags : Flags) (w : Width) (a b : Val) → line ≡ insts.Bin dst op flags w a b → IsLine m label before line → IsBin label before dst op flags w a b
-line_bin m label before line dst op flags w a b e (Operation dst' op' a' b' f new is first second) =
-    let same_dst : dst ≡ dst' = cc in
-    let same_op : op ≡ op' = cc in
-    let same_flags : flags ≡ no_flags = cc in
-    let same_width : w ≡ W64 = cc in
-    let same_a : a ≡ a' = cc in
-    let same_b : b ≡ b' = cc in
-    rw (same_dst, same_op, same_a, same_b) (((((new, is), same_flags), same_width), first), second)
-line_bin m label before line dst op flags w a b e (Output callee value f is first) = cc
+integer-Decides : (ty : Ty) (test : Width → Bool) (fact : Width → Type 0) → ((w : Width) → Decides (test w) (fact w)) → Decides (at_width (int_width ty) test) (OfInteger ty fact)
+integer-Decides ty test fact h = elim ty as (λ ty. Decides (at_width (int_width ty) test) (OfInteger ty fact)) [
+  | types.Int width ↦ (λ e. record { width = width; is = refl; holds = (h width).0 e }, integer_at width test fact h)
+  | _ ↦ never (λ of. let e = of.is in cc)
+]
 
 -- the arguments are one operand
-data IsArgument (before : List Inst) (arguments : List (Ty × Val)) : Type 0 where
-  Argument : (value : Val) → arguments ≡ (types.Int W64, value) ∷ [] → IsOperand before value → IsArgument before arguments
-
-argument_parts : (before : List Inst) (x : Ty × Val) → IsArgument before (x ∷ []) → (x.0 ≡ types.Int W64) × IsOperand before x.1
-argument_parts before x (Argument other e is) =
-    let same : x ≡ (types.Int W64, other) = cc in
-    (ap (λ (y : Ty × Val). y.0) same, rw same is)
-
-argument_more : (before : List Inst) (x y : Ty × Val) (rest : List (Ty × Val)) → IsArgument before (x ∷ y ∷ rest) → ⊥
-argument_more before x y rest (Argument other e is) = cc
-
-argument_none : (before : List Inst) → IsArgument before [] → ⊥
-argument_none before (Argument other e is) = cc
+argument_parts : (before : List Inst) (x : Ty × Val) → IsArgument before (x ∷ []) → (x.0 ≡ types.Int W64) × IsOperand before W64 x.1
+argument_parts before x argument =
+    let same : x ≡ (types.Int W64, argument.value) = cc argument.alone in
+    (ap (λ (y : Ty × Val). y.0) same, rw same argument.operand)
 
 argument-Decides : (before : List Inst) (arguments : List (Ty × Val)) → Decides (is_argument before arguments) (IsArgument before arguments)
-argument-Decides before [] = never (argument_none before)
+argument-Decides before [] = never (λ x. let e = x.alone in cc)
 argument-Decides before (x ∷ []) =
-    Decides-like _ (λ (e : (x.0 ≡ types.Int W64) × IsOperand before x.1). Argument x.1 (ap (λ (ty : Ty). (ty, x.1) ∷ []) e.0) e.1) (argument_parts before x)
-    (Decides-and _ _ (i64-Decides x.0) (operand-Decides before x.1))
-argument-Decides before (x ∷ y ∷ rest) = never (argument_more before x y rest)
+    Decides-like _ (λ (e : (x.0 ≡ types.Int W64) × IsOperand before W64 x.1). record { value = x.1; alone = ap (λ (ty : Ty). (ty, x.1) ∷ []) e.0; operand = e.1 }) (argument_parts before x)
+    (Decides-and _ _ (i64-Decides x.0) (operand-Decides before W64 x.1))
+argument-Decides before (x ∷ y ∷ rest) = never (λ x. let e = x.alone in cc)
 
 none-Decides : (dst : Option Loc) → Decides (is_none dst) (dst ≡ None)
 none-Decides None = (λ e. refl, λ e. refl)
 none-Decides (Some dst) = never (λ e. cc)
 
--- a call, part by part
-abbrev IsCall : ModuleParts → List Inst → Option Loc → Ty → Sym → List (Ty × Val) → Type 0
-IsCall m before dst ret callee args = (((dst ≡ None) × (ret ≡ types.Void)) × IsDeclared m.declares callee) × IsArgument before args
-
-call-Decides : (m : ModuleParts) (label : Loc) (before : List Inst) (dst : Option Loc) (ret : Ty) (callee : Sym) (args : List (Ty × Val)) → Decides (is_line m label before (insts.Call dst ret callee args)) (IsCall m before dst ret callee args)
-call-Decides m label before dst ret callee args =
-    Decides-and _ _ (Decides-and _ _ (Decides-and _ _ (none-Decides dst) (void-Decides ret)) (declared-Decides m.declares callee)) (argument-Decides before args)
-
-call_line_by : (m : ModuleParts) (label : Loc) (before : List Inst) (dst : Option Loc) (ret : Ty) (callee : Sym) (args : List (Ty × Val)) → dst ≡ None → ret ≡ types.Void → IsDeclared m.declares callee → IsArgument before args → IsLine m label before (insts.Call dst ret callee args)
-call_line_by m label before dst ret callee args d r is (Argument value e operand) = Output callee value (rw (d, r, e) refl) is operand
-
-call_line : (m : ModuleParts) (label : Loc) (before : List Inst) (dst : Option Loc) (ret : Ty) (callee : Sym) (args : List (Ty × Val)) → IsCall m before dst ret callee args → IsLine m label before (insts.Call dst ret callee args)
-call_line m label before dst ret callee args e = call_line_by m label before dst ret callee args e.0.0.0 e.0.0.1 e.0.1 e.1
-
-line_call : (m : ModuleParts) (label : Loc) (before : List Inst) (line : Inst) (dst : Option Loc) (ret : Ty) (callee : Sym) (args : List (Ty × Val)) → line ≡ insts.Call dst ret callee args → IsLine m label before line → IsCall m before dst ret callee args
-line_call m label before line dst ret callee args e (Operation dst' op' a' b' f new is first second) = cc
-line_call m label before line dst ret callee args e (Output callee' value f is operand) =
-    let no_dst : dst ≡ None = cc in
-    let no_ret : ret ≡ types.Void = cc in
-    let same_callee : callee ≡ callee' = cc in
-    let same_args : args ≡ (types.Int W64, value) ∷ [] = cc in
-    rw same_callee (((no_dst, no_ret), is), Argument value same_args operand)
-
--- no other instruction is a line
-no_line : (m : ModuleParts) (label : Loc) (before : List Inst) (line : Inst) → ((dst : Loc) (op : BinOp) (a b : Val) → line ≡ insts.Bin dst op no_flags W64 a b → ⊥) → ((callee : Sym) (value : Val) → line ≡ insts.Call None types.Void callee ((types.Int W64, value) ∷ []) → ⊥) → IsLine m label before line → ⊥
-no_line m label before line n c (Operation dst op a b e new is first second) = n dst op a b e
-no_line m label before line n c (Output callee value e is operand) = c callee value e
+conversion-Decides : (before : List Inst) (op : CastOp) (v w : Width) (a : Val) → Decides (is_conversion op v w && is_operand before v a) (IsTrue (is_conversion op v w) × IsOperand before v a)
+conversion-Decides before op v w a = Decides-and _ _ (λ e. e, λ e. e) (operand-Decides before v a)
 
 line-Decides : (m : ModuleParts) (label : Loc) (before : List Inst) (line : Inst) → Decides (is_line m label before line) (IsLine m label before line)
-line-Decides m label before (insts.Bin dst op flags w a b) =
-    Decides-like _ (bin_line m label before dst op flags w a b) (line_bin m label before (insts.Bin dst op flags w a b) dst op flags w a b refl) (bin-Decides m label before dst op flags w a b)
+line-Decides m label before (insts.Bin dst op flags w a b) = Decides-and _ _ (new-Decides label before dst) (operands-Decides before w a b)
+line-Decides m label before (insts.Cmp dst pred ty a b) =
+    Decides-and _ _ (new-Decides label before dst) (integer-Decides ty _ _ (λ w. operands-Decides before w a b))
+line-Decides m label before (insts.Select dst condition ty a b) =
+    Decides-and _ _ (Decides-and _ _ (new-Decides label before dst) (operand-Decides before W1 condition)) (integer-Decides ty _ _ (λ w. operands-Decides before w a b))
+line-Decides m label before (insts.Cast dst op from a to) =
+    Decides-and _ _ (new-Decides label before dst) (integer-Decides from _ _ (λ v. integer-Decides to _ _ (λ w. conversion-Decides before op v w a)))
 line-Decides m label before (insts.Call dst ret callee args) =
-    Decides-like _ (call_line m label before dst ret callee args) (line_call m label before (insts.Call dst ret callee args) dst ret callee args refl) (call-Decides m label before dst ret callee args)
-line-Decides m label before line = never (no_line m label before line (λ dst op a b e. cc) (λ callee value e. cc))
+    Decides-and _ _ (Decides-and _ _ (none-Decides dst) (void-Decides ret)) (Decides-and _ _ (declared-Decides m.declares callee) (argument-Decides before args))
+line-Decides m label before line = never (λ e. e)
 
 -- ---- the block
 
--- the return of a constant
-data IsReturn (inst : Inst) : Type 0 where
-  Returns : (code : ℕ) → inst ≡ return_of code → IsReturn inst
+-- the return of an operand
+data IsReturn (before : List Inst) (inst : Inst) : Type 0 where
+  Returns : (value : Val) → inst ≡ return_of value → IsOperand before W32 value → IsReturn before inst
 
-constant_by : (ty : Ty) (value : Option Val) → (is_i32 ty && is_constant value) ≡ true → IsReturn (insts.Ret ty value)
-constant_by ty (Some (values.Int code)) e = Returns code (ap (λ (x : Ty). insts.Ret x (Some (values.Int code))) ((Decides-and _ _ (i32-Decides ty) (none true)).0 e).0)
-  where
-    none : (b : Bool) → Decides b (b ≡ true)
-    none b = (λ e. e, λ e. e)
-constant_by ty value e = no_constant (is_i32 ty) e
-  where
-    no_constant : {P : Type 0} (b : Bool) → (b && false) ≡ true → P
-    no_constant true e = cc
-    no_constant false e = cc
+return_some : (before : List Inst) (ty : Ty) (value : Val) → (is_i32 ty && is_operand before W32 value) ≡ true → IsReturn before (insts.Ret ty (Some value))
+return_some before ty value e =
+    let both = (Decides-and _ _ (i32-Decides ty) (operand-Decides before W32 value)).0 e in
+    Returns value (ap (λ (x : Ty). insts.Ret x (Some value)) both.0) both.1
 
-return_by : (inst : Inst) → is_return inst ≡ true → IsReturn inst
-return_by (insts.Ret ty value) e = constant_by ty value e
-return_by inst e = cc
+return_none : {P : Type 0} (b : Bool) → (b && false) ≡ true → P
+return_none true e = cc
+return_none false e = cc
 
-by_return : (inst : Inst) → IsReturn inst → is_return inst ≡ true
-by_return inst (Returns code e) = rw e refl
+return_by : (before : List Inst) (inst : Inst) → is_return before inst ≡ true → IsReturn before inst
+return_by before (insts.Ret ty None) e = return_none (is_i32 ty) e
+return_by before (insts.Ret ty (Some value)) e = return_some before ty value e
+return_by before inst e = cc
+
+by_return : (before : List Inst) (value : Val) → IsOperand before W32 value → is_return before (return_of value) ≡ true
+by_return before value is = (operand-Decides before W32 value).1 is
 
 -- lines behind others, and then a return
 record AreInsts (m : ModuleParts) (label : Loc) (before insts : List Inst) : Type 0 where
   lines : List Inst
-  code : ℕ
-  whole : insts ≡ lines ++ return_of code ∷ []
+  value : Val
+  whole : insts ≡ lines ++ return_of value ∷ []
   fit : AreLines m label before lines
+  operand : IsOperand (before ++ lines) W32 value
 
-return_alone : (m : ModuleParts) (label : Loc) (before : List Inst) (last : Inst) → IsReturn last → AreInsts m label before (last ∷ [])
-return_alone m label before last (Returns code e) = record { lines = []; code = code; whole = ap (λ (x : Inst). x ∷ []) e; fit = tt }
+return_alone : (m : ModuleParts) (label : Loc) (before : List Inst) (last : Inst) → IsReturn before last → AreInsts m label before (last ∷ [])
+return_alone m label before last (Returns value e is) =
+    record { lines = []; value = value; whole = ap (λ (x : Inst). x ∷ []) e; fit = tt; operand = rw (append-nil before) is }
 
 insts_by : (m : ModuleParts) (label : Loc) (before insts : List Inst) → are_insts m label before insts ≡ true → AreInsts m label before insts
 insts_by m label before [] e = cc
-insts_by m label before (last ∷ []) e = return_alone m label before last (return_by last e)
+insts_by m label before (last ∷ []) e = return_alone m label before last (return_by before last e)
 insts_by m label before (line ∷ next ∷ rest) e =
     let both = (Decides-and _ _ (line-Decides m label before line) (λ x. x, λ x. x)).0 e in
     let more = insts_by m label (before ++ line ∷ []) (next ∷ rest) both.1 in
-    record { lines = line ∷ more.lines; code = more.code; whole = ap (λ (xs : List Inst). line ∷ xs) more.whole; fit = (both.0, more.fit) }
+    record { lines = line ∷ more.lines; value = more.value; whole = ap (λ (xs : List Inst). line ∷ xs) more.whole; fit = (both.0, more.fit); operand = rw (← append_assoc before (line ∷ []) more.lines) more.operand }
 
-by_lines : (m : ModuleParts) (label : Loc) (before lines : List Inst) (code : ℕ) → AreLines m label before lines → are_insts m label before (lines ++ return_of code ∷ []) ≡ true
-by_lines m label before [] code fit = refl
-by_lines m label before (line ∷ []) code fit = (Decides-and _ _ (line-Decides m label before line) (λ x. x, λ x. x)).1 (fit.0, refl)
-by_lines m label before (line ∷ next ∷ rest) code fit = (Decides-and _ _ (line-Decides m label before line) (λ x. x, λ x. x)).1 (fit.0, by_lines m label (before ++ line ∷ []) (next ∷ rest) code fit.1)
+by_lines : (m : ModuleParts) (label : Loc) (before lines : List Inst) (value : Val) → AreLines m label before lines → IsOperand (before ++ lines) W32 value → are_insts m label before (lines ++ return_of value ∷ []) ≡ true
+by_lines m label before [] value fit is = by_return before value (rw (append-nil before) at is)
+by_lines m label before (line ∷ []) value fit is = (Decides-and _ _ (line-Decides m label before line) (λ x. x, λ x. x)).1 (fit.0, by_return (before ++ line ∷ []) value is)
+by_lines m label before (line ∷ next ∷ rest) value fit is =
+    (Decides-and _ _ (line-Decides m label before line) (λ x. x, λ x. x)).1 (fit.0, by_lines m label (before ++ line ∷ []) (next ∷ rest) value fit.1 (rw (append_assoc before (line ∷ []) (next ∷ rest)) is))
 
 body-Decides : (m : ModuleParts) (block : Block) → Decides (are_insts m block.label [] block.insts) (IsBody m block)
-body-Decides m block = (λ e. let are = insts_by m block.label [] block.insts e in record { lines = are.lines; code = are.code; whole = are.whole; fit = are.fit }, λ b. rw b.whole (by_lines m block.label [] b.lines b.code b.fit))
+body-Decides m block = (λ e. let are = insts_by m block.label [] block.insts e in record { lines = are.lines; value = are.value; whole = are.whole; fit = are.fit; operand = are.operand }, λ b. rw b.whole (by_lines m block.label [] b.lines b.value b.fit b.operand))
 
 -- ---- the function and the module
 

@@ -3,7 +3,7 @@
 use Rattle.std.specs.Prelude.{ℕ, ◌≡◌, ◌+◌, ◌<◌, ◌==◌, ◌&&◌, nat_lt, not, if◌then◌else◌, List, [], ◌∷◌, ◌++◌, Option, Some, None, Bool, true, false, codes}
 use Rattle.std.specs.Str.{bytes_eq}
 use Rattle.ir_core.specs.declared.types.Width.{Width}
-use Rattle.ir_core.specs.declared.types.Width.TheVariants.{W32, W64}
+use Rattle.ir_core.specs.declared.types.Width.TheVariants.{W1, W32, W64}
 use Rattle.ir_core.specs.declared.types.Ty.{Ty}
 use Rattle.ir_core.specs.declared.types.Ty.TheVariants as types
 use Rattle.ir_core.specs.declared.types.Sym.{Sym}
@@ -11,15 +11,13 @@ use Rattle.ir_core.specs.declared.types.Loc.{Loc}
 use Rattle.ir_core.specs.declared.values.Val.{Val}
 use Rattle.ir_core.specs.declared.values.Val.TheVariants as values
 use Rattle.ir_core.specs.declared.values.Declare.{Declare}
-use Rattle.ir_core.specs.declared.instruction.BinOp.{BinOp}
-use Rattle.ir_core.specs.declared.instruction.BinOp.TheVariants.{Add, Sub, Mul}
-use Rattle.ir_core.specs.declared.instruction.Flags.{Flags}
+use Rattle.ir_core.specs.declared.instruction.CastOp.{CastOp}
 use Rattle.ir_core.specs.declared.instruction.Block.{Block}
 use Rattle.ir_core.specs.declared.instruction.Inst.{Inst}
 use Rattle.ir_core.specs.declared.instruction.Inst.TheVariants as insts
 use Rattle.ir_core.specs.Module.{ModuleParts, FuncParts}
-use Rattle.ir_action.specs.Action.{destination}
-use Rattle.haft_run.specs.Built.{name_of, is_assigned}
+use Rattle.ir_action.specs.Action.{destination, int_width, is_conversion}
+use Rattle.haft_run.specs.Built.{name_of, is_assigned, is_assigned_at}
 
 abbrev pub is_empty : {A : Type 0} → List A → Bool
 is_empty [] = true
@@ -43,27 +41,20 @@ is_i32 ty = elim ty as (λ _. Bool) [ types.Int width ↦ is_narrow width | _ �
 abbrev pub is_void : Ty → Bool
 is_void ty = elim ty as (λ _. Bool) [ types.Void ↦ true | _ ↦ false ]
 
-abbrev pub is_operation : BinOp → Bool
-is_operation Add = true
-is_operation Sub = true
-is_operation Mul = true
-is_operation op = false
+abbrev pub is_operand : List Inst → Width → Val → Bool
+is_operand before w (values.Reg register) = is_assigned_at before register.0 w
+is_operand before w (values.Int number) = true
+is_operand before w value = false
 
--- no flag is set
-abbrev pub is_plain : Flags → Bool
-is_plain flags = not flags.nuw && not flags.nsw && not flags.exact
-
-abbrev pub is_operand : List Inst → Val → Bool
-is_operand before (values.Reg register) = is_assigned before register.0
-is_operand before (values.Int number) = true
-is_operand before value = false
+abbrev pub are_operands : List Inst → Width → Val → Val → Bool
+are_operands before w a b = is_operand before w a && is_operand before w b
 
 abbrev pub is_new : Loc → List Inst → Loc → Bool
 is_new label before register = not (register.0 == label.0) && not (is_assigned before register.0)
 
 -- one operand of type `i64`
 abbrev pub is_argument : List Inst → List (Ty × Val) → Bool
-is_argument before (argument ∷ []) = is_i64 argument.0 && is_operand before argument.1
+is_argument before (argument ∷ []) = is_i64 argument.0 && is_operand before W64 argument.1
 is_argument before arguments = false
 
 -- one parameter of type `i64`
@@ -87,24 +78,36 @@ abbrev pub is_none : Option Loc → Bool
 is_none None = true
 is_none (Some dst) = false
 
+-- the test of a width, where there is one
+abbrev pub at_width : Option Width → (Width → Bool) → Bool
+at_width None test = false
+at_width (Some w) test = test w
+
+abbrev pub is_cast : List Inst → CastOp → Option Width → Option Width → Val → Bool
+is_cast before op from to a = at_width from (λ v. at_width to (λ w. is_conversion op v w && is_operand before v a))
+
 abbrev pub is_line : ModuleParts → Loc → List Inst → Inst → Bool
-is_line m label before (insts.Bin dst op flags w a b) =
-    is_new label before dst && is_operation op && is_plain flags && is_wide w && is_operand before a && is_operand before b
-is_line m label before (insts.Call dst ret callee args) = is_none dst && is_void ret && is_declared m.declares callee && is_argument before args
+is_line m label before (insts.Bin dst op flags w a b) = is_new label before dst && are_operands before w a b
+is_line m label before (insts.Cmp dst pred ty a b) = is_new label before dst && at_width (int_width ty) (λ w. are_operands before w a b)
+is_line m label before (insts.Select dst condition ty a b) =
+    (is_new label before dst && is_operand before W1 condition) && at_width (int_width ty) (λ w. are_operands before w a b)
+is_line m label before (insts.Cast dst op from a to) = is_new label before dst && is_cast before op (int_width from) (int_width to) a
+is_line m label before (insts.Call dst ret callee args) = (is_none dst && is_void ret) && (is_declared m.declares callee && is_argument before args)
 is_line m label before line = false
 
-abbrev pub is_constant : Option Val → Bool
-is_constant (Some (values.Int number)) = true
-is_constant value = false
+-- a value of type `i32`
+abbrev pub is_result : List Inst → Option Val → Bool
+is_result before None = false
+is_result before (Some value) = is_operand before W32 value
 
-abbrev pub is_return : Inst → Bool
-is_return (insts.Ret ty value) = is_i32 ty && is_constant value
-is_return line = false
+abbrev pub is_return : List Inst → Inst → Bool
+is_return before (insts.Ret ty value) = is_i32 ty && is_result before value
+is_return before line = false
 
 -- lines behind others, and then a return
 abbrev pub are_insts : ModuleParts → Loc → List Inst → List Inst → Bool
 are_insts m label before [] = false
-are_insts m label before (last ∷ []) = is_return last
+are_insts m label before (last ∷ []) = is_return before last
 are_insts m label before (line ∷ next ∷ rest) = is_line m label before line && are_insts m label (before ++ line ∷ []) (next ∷ rest)
 
 abbrev pub is_one_block : ModuleParts → List Block → Bool

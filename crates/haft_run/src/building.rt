@@ -2,15 +2,24 @@
 //!
 //! What is meant says `specs/Built.antt`; each function here computes a test of `specs/Testing.antt`. Whether an
 //! earlier line assigns a register is told by its number alone, as long as the results have the numbers behind the
-//! label's in order, which is how the names of a text are numbered. So the time is linear in the lines of a text;
-//! behind a result of another number the earlier lines are looked through.
-ghost use Rattle.std.specs.Prelude.{◌≡◌, ◌↔◌, ◌++◌, [], ◌∷◌, IsTrue};
-ghost use Rattle.haft_run.specs.Built.{name_of, is_register, assigns, is_assigned, IsBuilt};
-ghost use Rattle.haft_run.specs.Testing.{is_wide, is_narrow, is_i64, is_i32, is_void, is_operation, is_plain, is_operand, is_new, is_argument, is_alone, is_output, are_declares, is_declared, is_line, is_constant, is_return, are_insts, is_one_block, is_main, is_program, is_built, AreInOrder, next_behind};
+//! label's in order, which is how the names of a text are numbered. At which width it assigns is looked up in the line
+//! itself, which is guessed by that number from both ends. So the time is linear in the lines of a text, unless many
+//! lines without a result stand both before a register and between it and its use; there, and behind a result of
+//! another number, the earlier lines are looked through.
+ghost use Rattle.std.specs.Prelude.{◌≡◌, ◌↔◌, ◌++◌, [], ◌∷◌, IsTrue, true};
+ghost use Rattle.haft_run.specs.Built.{name_of, is_register, assigns, is_assigned, result_width, assigns_at, is_assigned_at, IsBuilt};
+ghost use Rattle.ir_action.specs.Action.{int_width as width_of};
+ghost use Rattle.haft_run.specs.Meaning.{IsUndefinedByOperators};
+ghost use Rattle.haft_run.specs.Testing.{is_wide, is_narrow, is_i64, is_i32, is_void, is_operand, are_operands, is_cast, is_new, at_width, is_argument, is_alone, is_output, are_declares, is_declared, is_line, is_result, is_return, are_insts, is_one_block, is_main, is_program, is_built, AreInOrder, next_behind};
 
 use crate::frame::destination_of;
 use crate::machine::sym_text;
-use ir_core::{BinOp, Block, Declare, Flags, Func, Inst, Loc, Module, Sym, Ty, Val, Width};
+use ir_action::{int_width, is_conversion};
+use ir_core::{Block, CastOp, Declare, Func, Inst, Loc, Module, Sym, Ty, Val, Width};
+use op_table::bit_count;
+
+/// How often a guess at a line is mended.
+const GUESSES: u32 = 64;
 
 /// Whether the type is `i64`.
 fn is_i64(ty: &Ty) -> bool
@@ -33,27 +42,6 @@ fn is_void(ty: &Ty) -> bool
     matches!(ty, Ty::Void)
 }
 
-/// Whether the operation is `add`, `sub` or `mul`.
-fn is_operation(op: BinOp) -> bool
-    ensures { result ≡ is_operation op }
-{
-    matches!(op, BinOp::Add | BinOp::Sub | BinOp::Mul)
-}
-
-/// Whether the width is that of `i64`.
-fn is_wide(width: Width) -> bool
-    ensures { result ≡ is_wide width }
-{
-    matches!(width, Width::W64)
-}
-
-/// Whether no flag is set.
-fn is_plain(flags: Flags) -> bool
-    ensures { result ≡ is_plain flags }
-{
-    !flags.nuw && !flags.nsw && !flags.exact
-}
-
 /// Whether the line assigns the register.
 fn assigns(line: &Inst, at: Loc) -> bool
     ensures { result ≡ assigns at.0 line.now }
@@ -69,6 +57,85 @@ fn is_assigned(lines: &[Inst], at: Loc) -> bool
     ensures { result ≡ is_assigned lines.now at.0 }
 {
     lines.iter().any(|line| assigns(line, at))
+}
+
+/// The width of a line's result.
+fn width_of_result(line: &Inst) -> Option<Width>
+    ensures { result ≡ result_width line.now }
+{
+    match line {
+        Inst::Bin { w, .. } => Some(*w),
+        Inst::Cmp { .. } => Some(Width::W1),
+        Inst::Select { ty, .. } => int_width(ty),
+        Inst::Cast { to, .. } => int_width(to),
+        _ => None,
+    }
+}
+
+/// Whether the line assigns the register a word of this width.
+fn assigns_at(line: &Inst, at: Loc, w: Width) -> bool
+    ensures { result ≡ assigns_at at.0 w line.now }
+{
+    assigns(line, at)
+        && match width_of_result(line) {
+            Some(other) => bit_count(other) == bit_count(w),
+            None => false,
+        }
+}
+
+/// Whether one of the lines assigns the register a word of this width.
+fn is_assigned_at(lines: &[Inst], at: Loc, w: Width) -> bool
+    ensures { result ≡ is_assigned_at lines.now at.0 w }
+{
+    lines.iter().any(|line| assigns_at(line, at, w))
+}
+
+/// How far from this line, at least, the line that assigns the register stands, where results are in order: no line
+/// has two.
+fn lines_between(line: Option<&Inst>, at: Loc) -> usize {
+    match line {
+        Some(line) => match destination_of(line) {
+            Some(dst) => dst.0.abs_diff(at.0) as usize,
+            None => 1,
+        },
+        None => 1,
+    }
+}
+
+/// A guess at the line that assigns the register, from this line on. Nothing rests on it.
+fn guess_behind(lines: &[Inst], from: usize, at: Loc) -> usize {
+    let mut index = from;
+    for _step in 0..GUESSES {
+        let lines_left = lines_between(lines.get(index), at);
+        if lines_left == 0 {
+            break;
+        }
+        index = index.saturating_add(lines_left);
+    }
+    index
+}
+
+/// A guess at the line that assigns the register, from the last line back. Nothing rests on it.
+fn guess_before_end(lines: &[Inst], at: Loc) -> usize {
+    let mut index = lines.len();
+    for _step in 0..GUESSES {
+        let lines_left = lines_between(lines.get(index), at);
+        if lines_left == 0 {
+            break;
+        }
+        index = index.saturating_sub(lines_left);
+    }
+    index
+}
+
+/// Whether this line assigns the register a word of this width.
+fn is_at(lines: &[Inst], index: usize, at: Loc, w: Width) -> bool
+    ensures { IsTrue result → is_assigned_at lines.now at.0 w ≡ true }
+{
+    match lines.get(index) {
+        Some(line) => assigns_at(line, at, w),
+        None => false,
+    }
 }
 
 /// Whether the parameters are one `i64`.
@@ -111,23 +178,6 @@ fn is_declared(m: &Module, callee: Sym) -> bool
     }
 }
 
-/// Whether the value is a constant.
-fn is_constant(value: &Option<Val>) -> bool
-    ensures { result ≡ is_constant value.now }
-{
-    matches!(value, Some(Val::Int(_)))
-}
-
-/// Whether the instruction returns a constant of type `i32`.
-fn is_return(inst: &Inst) -> bool
-    ensures { result ≡ is_return inst.now }
-{
-    match inst {
-        Inst::Ret { ty, val } => is_i32(ty) && is_constant(val),
-        _ => false,
-    }
-}
-
 /// What stands before a line: the block's label, and the lines so far.
 #[derive(Clone, Copy)]
 struct Before<'a> {
@@ -149,14 +199,54 @@ impl Before<'_> {
         }
     }
 
-    /// Whether the value is a constant, or a register that is assigned.
-    fn is_operand(&self, value: &Val) -> bool
-        requires { AreInOrder self.now.label self.now.lines.now self.now.next }
-        ensures { result ≡ is_operand self.now.lines.now value.now }
+    /// Whether a line so far assigns the register a word of this width.
+    fn assigns_at(&self, at: Loc, w: Width) -> bool
+        ensures { result ≡ is_assigned_at self.now.lines.now at.0 w }
+    {
+        let first = at.0.saturating_sub(self.label.0).saturating_sub(1);
+        is_at(
+            self.lines,
+            guess_behind(self.lines, first as usize, at),
+            at,
+            w,
+        ) || is_at(self.lines, guess_before_end(self.lines, at), at, w)
+            || is_assigned_at(self.lines, at, w)
+    }
+
+    /// Whether the value is a constant, or a register that is assigned a word of this width.
+    fn is_operand(&self, w: Width, value: &Val) -> bool
+        ensures { result ≡ is_operand self.now.lines.now w value.now }
     {
         match value {
-            Val::Reg(register) => self.assigns(*register),
+            Val::Reg(register) => self.assigns_at(*register, w),
             Val::Int(_) => true,
+            _ => false,
+        }
+    }
+
+    /// Whether both values are operands of this width.
+    fn are_operands(&self, w: Width, a: &Val, b: &Val) -> bool
+        ensures { result ≡ are_operands self.now.lines.now w a.now b.now }
+    {
+        self.is_operand(w, a) && self.is_operand(w, b)
+    }
+
+    /// Whether both values are operands of this integer type.
+    fn are_integers(&self, ty: &Ty, a: &Val, b: &Val) -> bool
+        ensures { result ≡ at_width (width_of ty.now) (λ w. are_operands self.now.lines.now w a.now b.now) }
+    {
+        match int_width(ty) {
+            Some(w) => self.are_operands(w, a, b),
+            None => false,
+        }
+    }
+
+    /// Whether the value is cast between integer types.
+    fn is_cast(&self, op: CastOp, from: &Ty, a: &Val, to: &Ty) -> bool
+        ensures { result ≡ is_cast self.now.lines.now op (width_of from.now) (width_of to.now) a.now }
+    {
+        match (int_width(from), int_width(to)) {
+            (Some(from), Some(to)) => is_conversion(op, from, to) && self.is_operand(from, a),
             _ => false,
         }
     }
@@ -171,36 +261,38 @@ impl Before<'_> {
 
     /// Whether the arguments are one operand of type `i64`.
     fn is_argument(&self, arguments: &[(Ty, Val)]) -> bool
-        requires { AreInOrder self.now.label self.now.lines.now self.now.next }
         ensures { result ≡ is_argument self.now.lines.now arguments.now }
     {
         match arguments {
-            [(ty, value)] => is_i64(ty) && self.is_operand(value),
+            [(ty, value)] => is_i64(ty) && self.is_operand(Width::W64, value),
             _ => false,
         }
     }
 
-    /// Whether the line is an operation or a call that is built.
+    /// Whether the line is one that is built.
     fn is_line(&self, m: &Module, line: &Inst) -> bool
         requires { AreInOrder self.now.label self.now.lines.now self.now.next }
         ensures { result ≡ is_line m.now self.now.label self.now.lines.now line.now }
     {
         match line {
-            Inst::Bin {
+            Inst::Bin { dst, w, a, b, .. } => self.is_new(*dst) && self.are_operands(*w, a, b),
+            Inst::Cmp { dst, ty, a, b, .. } => self.is_new(*dst) && self.are_integers(ty, a, b),
+            Inst::Select {
                 dst,
-                op,
-                flags,
-                w,
+                cond,
+                ty,
                 a,
                 b,
             } => {
-                self.is_new(*dst)
-                    && is_operation(*op)
-                    && is_plain(*flags)
-                    && is_wide(*w)
-                    && self.is_operand(a)
-                    && self.is_operand(b)
+                self.is_new(*dst) && self.is_operand(Width::W1, cond) && self.are_integers(ty, a, b)
             }
+            Inst::Cast {
+                dst,
+                op,
+                from,
+                a,
+                to,
+            } => self.is_new(*dst) && self.is_cast(*op, from, a, to),
             Inst::Call {
                 dst,
                 ret,
@@ -212,6 +304,19 @@ impl Before<'_> {
                     && is_declared(m, *callee)
                     && self.is_argument(args.items())
             }
+            _ => false,
+        }
+    }
+
+    /// Whether the instruction returns a value of type `i32`.
+    fn is_return(&self, inst: &Inst) -> bool
+        ensures { result ≡ is_return self.now.lines.now inst.now }
+    {
+        match inst {
+            Inst::Ret {
+                ty,
+                val: Some(value),
+            } => is_i32(ty) && self.is_operand(Width::W32, value),
             _ => false,
         }
     }
@@ -237,14 +342,14 @@ fn are_insts(m: &Module, label: Loc, insts: &[Inst]) -> bool
 {
     let mut next = Some(u64::from(label.0) + 1);
     'insts: for (index, inst) in insts.iter().enumerate() {
-        if index + 1 == insts.len() {
-            return is_return(inst);
-        }
         let before = Before {
             label,
             lines: &insts[..index],
             next,
         };
+        if index + 1 == insts.len() {
+            return before.is_return(inst);
+        }
         if !before.is_line(m, inst) {
             return false;
         }
@@ -293,7 +398,9 @@ fn are_parts(m: &Module) -> bool
 
 /// Whether the module is one that `run` takes: a `main` of one block, as `specs/Built.antt` says.
 pub fn built(m: &Module) -> bool
-    ensures { IsTrue result ↔ IsBuilt m.now }
+    ensures exact { IsTrue result ↔ IsBuilt m.now }
+    // A step of a built module is undefined only by an operator, and for a cause that the operator has.
+    ensures causes { IsTrue result → IsUndefinedByOperators m.now }
 {
     are_parts(m)
 }

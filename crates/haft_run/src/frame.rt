@@ -26,7 +26,10 @@ pub fn destination_of(inst: &Inst) -> Option<Loc>
     ensures { result ≡ destination inst.now }
 {
     match inst {
-        Inst::Bin { dst, .. } => Some(*dst),
+        Inst::Bin { dst, .. }
+        | Inst::Cmp { dst, .. }
+        | Inst::Select { dst, .. }
+        | Inst::Cast { dst, .. } => Some(*dst),
         Inst::Call { dst, .. } => *dst,
         _ => None,
     }

@@ -87,6 +87,24 @@ fn push_operation(
     })
 }
 
+/// Adds an instruction, done on one side.
+fn push_done(
+    alloc: Global,
+    list: &mut HInsts,
+    inst: &Inst,
+    side: Side,
+    retires: bool,
+) -> Result<(), AllocError>
+    ensures { OnOk result (list.new ≡ list.old ++ HInst.Do side inst.now retires ∷ []) }
+{
+    let inst = inst.copy(alloc)?;
+    list.push(HInst::Do {
+        side,
+        inst,
+        retires,
+    })
+}
+
 /// Adds the columns of master and shadow of an instruction.
 fn shadow(alloc: Global, list: &mut HInsts, inst: &Inst) -> Result<(), AllocError>
     ensures { OnOk result (list.new ≡ list.old ++ doubled inst.now []) }
@@ -103,14 +121,11 @@ fn shadow(alloc: Global, list: &mut HInsts, inst: &Inst) -> Result<(), AllocErro
             push_operation(alloc, list, *dst, *op, *w, a, b, Side::M, false)?;
             push_operation(alloc, list, *dst, *op, *w, a, b, Side::S, true)
         }
-        _ => {
-            let inst = inst.copy(alloc)?;
-            list.push(HInst::Do {
-                side: Side::M,
-                inst,
-                retires: true,
-            })
+        Inst::Cmp { .. } | Inst::Select { .. } | Inst::Cast { .. } => {
+            push_done(alloc, list, inst, Side::M, false)?;
+            push_done(alloc, list, inst, Side::S, true)
         }
+        _ => push_done(alloc, list, inst, Side::M, true),
     }
 }
 

@@ -2,10 +2,11 @@
 //!
 //! `run` takes a module that is built (`built` tells exactly those of `specs/Built.antt`) and a schedule without
 //! upsets (`upset_free`). It hardens the module and runs it on the hardened machine: the result is that of
-//! `specs/Hard.antt` on the image of `hard_ir`'s `specs/Image.antt`, over the schedule's events. A built module
-//! comes to no undefined step, so the result stands for a run of the source program (`specs/Source.antt`), as
-//! `specs/Meaning.antt` says. `report` writes a result as bytes (`specs/Report.antt`). `run_small` is `run` for
-//! turns of thread 0 alone, for any module.
+//! `specs/Hard.antt` on the image of `hard_ir`'s `specs/Image.antt`, over the schedule's events. Where the module is
+//! good, which is that no list of turns comes to an undefined step, the result stands for a run of the source program
+//! (`specs/Source.antt`), as `specs/Meaning.antt` says; a step of a built module is undefined only by an operator.
+//! `report` writes a result as bytes (`specs/Report.antt`). `run_small` is `run` for turns of thread 0 alone, for any
+//! module.
 //!
 //! The passes and the machine are private, and plain by design: they serve one block and one thread, and
 //! crates of their own take their place.

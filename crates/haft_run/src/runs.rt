@@ -3,7 +3,7 @@ ghost use Rattle.std.specs.Prelude.{ℕ, ◌≡◌, ◌<◌, ◌^◌, List, leng
 ghost use Rattle.sched_file.specs.Events.{events_of};
 ghost use Rattle.small_text.specs.SmallText.{SmallText};
 ghost use Rattle.haft_run.specs.Turns.{run_on, turns_of_main};
-ghost use Rattle.haft_run.specs.Meaning.{IsDefined, Means};
+ghost use Rattle.haft_run.specs.Meaning.{IsGood, Means, Told};
 ghost use Rattle.haft_run.specs.Built.{IsBuilt};
 ghost use Rattle.haft_run.specs.Schedule.{IsUpsetFree, machine_events};
 
@@ -19,9 +19,9 @@ use std::alloc::{AllocError, Global};
 pub fn run_small(alloc: Global, m: &Module, turns: u64) -> Result<RunResult, AllocError>
     // The result is that of the hardened module's run.
     ensures exact { IfOk result (λ r. r ≡ run_on m.now (turns_of_main turns)) }
-    // A module without undefined steps means what the result says.
-    ensures meaning { IsDefined m.now → IfOk result (λ r. Means m.now r) }
-    // A small text's module has none, so its results mean what they say.
+    // The result stands for a run of a good module.
+    ensures meaning { IsGood m.now → IfOk result (λ r. Means m.now r) }
+    // A small text's module is good.
     ensures small { (text : List ℕ) → SmallText text m.now → IfOk result (λ r. Means m.now r) }
 {
     let callees = callees_of(alloc, m)?;
@@ -42,8 +42,10 @@ pub fn run(alloc: Global, m: &Module, s: &Schedule) -> Result<RunResult, AllocEr
     requires few { length (events_of s.now.lines) < 2 ^ 64 }
     // The result is that of the hardened module's run on the events.
     ensures exact { IfOk result (λ r. r ≡ run_on m.now (machine_events (events_of s.now.lines))) }
-    // A built module comes to no undefined step, so the result means what it says.
-    ensures meaning { IfOk result (λ r. Means m.now r) }
+    // The result stands for a run of the source, or the source is undefined on the result's turns.
+    ensures told { IfOk result (λ r. Told m.now r) }
+    // So it stands for a run of a good module.
+    ensures meaning { IsGood m.now → IfOk result (λ r. Means m.now r) }
 {
     let callees = callees_of(alloc, m)?;
     let hardened = harden(alloc, m)?;

@@ -17,6 +17,8 @@ mod lines;
 #[cfg(test)]
 mod names;
 #[cfg(test)]
+mod operator_runs;
+#[cfg(test)]
 mod operators;
 #[cfg(test)]
 mod parts;

@@ -8,7 +8,7 @@ ghost use Rattle.std.specs.Prelude.{◌≡◌, ◌^◌, ◌<◌, ◌↔◌, IsTr
 ghost use Rattle.op_table.specs.Operators.{bits, IsCast};
 
 use ir_core::{BinOp, CastOp, Flags, Pred, RmwOp, Width};
-use op_table::{OpCause, Word, bin, cast, cmp, rmw};
+use op_table::{OpCause, Word, bin, bit_count, cast, cmp, rmw};
 use std::process::Abort;
 
 /// A division that is undefined.
@@ -110,19 +110,6 @@ fn amounts(w: Width) -> &'static [u64] {
     }
 }
 
-/// The number of bits.
-fn count(w: Width) -> u32
-    ensures { result ≡ bits w }
-{
-    match w {
-        Width::W1 => 1,
-        Width::W8 => 8,
-        Width::W16 => 16,
-        Width::W32 => 32,
-        Width::W64 => 64,
-    }
-}
-
 /// Whether a number is a word.
 fn is_word(w: Width, n: u64) -> bool
     ensures { IsTrue result → n < 2 ^ bits w }
@@ -141,8 +128,8 @@ fn is_cast(op: CastOp, from: Width, to: Width) -> bool
     ensures { IsTrue result → IsCast op from to }
 {
     match op {
-        CastOp::Zext | CastOp::Sext => count(from) < count(to),
-        CastOp::Trunc => count(to) < count(from),
+        CastOp::Zext | CastOp::Sext => bit_count(from) < bit_count(to),
+        CastOp::Trunc => bit_count(to) < bit_count(from),
         CastOp::Ptrtoint => from == Width::W64,
         CastOp::Inttoptr => to == Width::W64,
     }

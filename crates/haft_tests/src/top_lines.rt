@@ -4,7 +4,7 @@ use ir_core::{GlobalVar, Init, Loc, Ty};
 use ir_grammar::{BodyLine, TopLine};
 use ir_lex::lex_line;
 use ir_parse_parts::LineError;
-use ir_parse_top::{read_body_line, read_top_line};
+use ir_parse_lines::{read_body_line, read_top_line};
 use std::alloc::Global;
 use std::process::Abort;
 

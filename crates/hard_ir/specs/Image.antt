@@ -3,9 +3,9 @@
 -- Choices: the image of a block is the concatenation of the images of its instructions. A column is
 -- added to the image of one instruction, and never at a place of a block. The instruction that retires
 -- is the last one of the image that does the source instruction.
--- Of the table's rows those of small texts stand here: operations, calls of externals without a result,
--- and `ret`.
-use Rattle.std.specs.Prelude.{List, [], ◌∷◌, Some, true, false}
+-- Of the table's rows those of one block without memory stand here: operators, `icmp`, `select`, casts,
+-- calls of externals without a result, and `ret`.
+use Rattle.std.specs.Prelude.{List, [], ◌∷◌, Some, Bool, true, false}
 use Rattle.ir_core.specs.declared.types.Ty.{Ty}
 use Rattle.ir_core.specs.declared.values.Val.{Val}
 use Rattle.ir_core.specs.declared.values.Val.TheVariants as values
@@ -23,11 +23,27 @@ use Rattle.hard_ir.specs.declared.instruction.HBlock.{HBlock}
 abbrev pub no_flags : Flags
 no_flags = record { nuw = false; nsw = false; exact = false }
 
--- The columns of master and shadow. An operation is done on each side, and the shadow retires; any other
--- instruction is done once, on the master's registers. What follows is `rest`.
+-- the instruction as the hardened program does it
+abbrev pub unflagged : Inst → Inst
+unflagged (insts.Bin dst op flags w a b) = insts.Bin dst op no_flags w a b
+unflagged inst = inst
+
+-- an operator, an `icmp`, a `select` and a cast are done on each side; any other instruction is done once
+abbrev pub is_doubled : Inst → Bool
+is_doubled (insts.Bin dst op flags w a b) = true
+is_doubled (insts.Cmp dst pred ty a b) = true
+is_doubled (insts.Select dst condition ty a b) = true
+is_doubled (insts.Cast dst op from a to) = true
+is_doubled inst = false
+
+-- The columns of master and shadow. Of an instruction that is done on each side the shadow retires; one that
+-- is done once is done on the master's registers. What follows is `rest`.
+abbrev pub done_by : Bool → Inst → List HInst → List HInst
+done_by true inst rest = Do M (unflagged inst) false ∷ Do S (unflagged inst) true ∷ rest
+done_by false inst rest = Do M inst true ∷ rest
+
 abbrev pub doubled : Inst → List HInst → List HInst
-doubled (insts.Bin dst op flags w a b) rest = Do M (insts.Bin dst op no_flags w a b) false ∷ Do S (insts.Bin dst op no_flags w a b) true ∷ rest
-doubled inst rest = Do M inst true ∷ rest
+doubled inst rest = done_by (is_doubled inst) inst rest
 
 -- the operands that are checked before an instruction is done, in the order in which its line writes them
 abbrev pub checked : Inst → List (Ty × Val)

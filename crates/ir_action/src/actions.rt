@@ -1,9 +1,11 @@
 //! What an instruction asks for, on the words of one register file.
-ghost use Rattle.std.specs.Prelude.{◌≡◌, IfOk, map};
-ghost use Rattle.ir_action.specs.Action.{callee_of, word_of, operation, output, returned, action_of};
+ghost use Rattle.std.specs.Prelude.{◌≡◌, ◌%◌, ◌^◌, ◌<◌, IfOk, IfSome, map};
+ghost use Rattle.op_table.specs.Operators.{bits};
+ghost use Rattle.ir_action.specs.Action.{callee_of, word_of, word_at, int_width, operation, comparison, selection, is_conversion, conversion, output, returned, action_of};
 
 use crate::Registers;
-use ir_core::{BinOp, Inst, Module, Sym, Ty, Val, Width};
+use ir_core::{BinOp, CastOp, Flags, Inst, Module, Pred, Sym, Ty, Val, Width};
+use op_table::{OpCause, bin, bit_count, cast, cmp, low_word};
 use std::alloc::{AllocError, Global};
 
 /// What a called name stands for.
@@ -25,6 +27,10 @@ pub enum Request {
 /// Why an instruction can't be done.
 #[derive(Clone, Copy, PartialEq, Eq)]
 pub enum Fault {
+    /// It divides by 0, or its signed quotient is past the greatest signed value.
+    Divide,
+    /// Its result is poison.
+    Poison,
     /// It reads a register that has no word.
     Unassigned,
     /// It is none that is understood so far.
@@ -78,15 +84,89 @@ fn word(registers: &Registers, value: &Val) -> Option<u64>
     }
 }
 
-/// What an operation gives (LLVM Language Reference, 'Binary Operations').
-fn operate(op: BinOp, width: Width, a: u64, b: u64) -> Action
-    ensures { result ≡ operation op width a b }
+/// An operand as a word of this width, where it has one.
+fn word_at(registers: &Registers, w: Width, value: &Val) -> Option<u64>
+    ensures value { result ≡ word_at registers.now w value.now }
+    ensures below { IfSome result (λ word. word < 2 ^ bits w) }
 {
-    match (op, width) {
-        (BinOp::Add, Width::W64) => Action::Assign(a.wrapping_add(b)),
-        (BinOp::Sub, Width::W64) => Action::Assign(a.wrapping_sub(b)),
-        (BinOp::Mul, Width::W64) => Action::Assign(a.wrapping_mul(b)),
-        _ => Action::Fault(Fault::Unsupported),
+    match word(registers, value) {
+        Some(word) => Some(low_word(w, word)),
+        None => None,
+    }
+}
+
+/// The width of an integer type.
+pub fn int_width(ty: &Ty) -> Option<Width>
+    ensures { result ≡ int_width ty.now }
+{
+    match ty {
+        Ty::Int(w) => Some(*w),
+        _ => None,
+    }
+}
+
+/// What an operator asks for (LLVM Language Reference, 'Binary Operations', 'Bitwise Binary Operations').
+fn operate(registers: &Registers, op: BinOp, flags: Flags, w: Width, a: &Val, b: &Val) -> Action
+    ensures { result ≡ operation registers.now op flags w a.now b.now }
+{
+    match (word_at(registers, w, a), word_at(registers, w, b)) {
+        (Some(a), Some(b)) => match bin(op, flags, w, a, b) {
+            Ok(word) => Action::Assign(word),
+            Err(OpCause::Divide) => Action::Fault(Fault::Divide),
+            Err(OpCause::Poison) => Action::Fault(Fault::Poison),
+        },
+        _ => Action::Fault(Fault::Unassigned),
+    }
+}
+
+/// What an `icmp` of integers asks for.
+fn compare(registers: &Registers, pred: Pred, w: Width, a: &Val, b: &Val) -> Action
+    ensures { result ≡ comparison registers.now pred w a.now b.now }
+{
+    match (word_at(registers, w, a), word_at(registers, w, b)) {
+        (Some(a), Some(b)) => Action::Assign(u64::from(cmp(pred, w, a, b))),
+        _ => Action::Fault(Fault::Unassigned),
+    }
+}
+
+/// What a `select` of integers asks for.
+fn select(registers: &Registers, w: Width, condition: &Val, a: &Val, b: &Val) -> Action
+    ensures { result ≡ selection registers.now w condition.now a.now b.now }
+{
+    let condition = word_at(registers, Width::W1, condition);
+    match (
+        condition,
+        word_at(registers, w, a),
+        word_at(registers, w, b),
+    ) {
+        (Some(condition), Some(a), Some(b)) => {
+            Action::Assign(if condition == 1 { a } else { b })
+        }
+        _ => Action::Fault(Fault::Unassigned),
+    }
+}
+
+/// Whether the cast goes between integer types of these widths.
+pub fn is_conversion(op: CastOp, from: Width, to: Width) -> bool
+    ensures { result ≡ is_conversion op from to }
+{
+    match op {
+        CastOp::Zext | CastOp::Sext => bit_count(from) < bit_count(to),
+        CastOp::Trunc => bit_count(to) < bit_count(from),
+        CastOp::Ptrtoint | CastOp::Inttoptr => false,
+    }
+}
+
+/// What a cast between integer types asks for.
+fn convert(registers: &Registers, op: CastOp, from: Width, to: Width, a: &Val) -> Action
+    ensures { result ≡ conversion registers.now op from to a.now }
+{
+    if !is_conversion(op, from, to) {
+        return Action::Fault(Fault::Unsupported);
+    }
+    match word_at(registers, from, a) {
+        Some(word) => Action::Assign(cast(op, from, to, word)),
+        None => Action::Fault(Fault::Unassigned),
     }
 }
 
@@ -121,9 +201,31 @@ pub fn action_of(callees: &[Callee], registers: &Registers, inst: &Inst) -> Acti
     ensures { result ≡ action_of callees.now registers.now inst.now }
 {
     match inst {
-        Inst::Bin { op, w, a, b, .. } => match (word(registers, a), word(registers, b)) {
-            (Some(a), Some(b)) => operate(*op, *w, a, b),
-            _ => Action::Fault(Fault::Unassigned),
+        Inst::Bin {
+            op,
+            flags,
+            w,
+            a,
+            b,
+            ..
+        } => operate(registers, *op, *flags, *w, a, b),
+        Inst::Cmp { pred, ty, a, b, .. } => match int_width(ty) {
+            Some(w) => compare(registers, *pred, w, a, b),
+            None => Action::Fault(Fault::Unsupported),
+        },
+        Inst::Select { cond, ty, a, b, .. } => match int_width(ty) {
+            Some(w) => select(registers, w, cond, a, b),
+            None => Action::Fault(Fault::Unsupported),
+        },
+        Inst::Cast {
+            op,
+            from,
+            a,
+            to,
+            ..
+        } => match (int_width(from), int_width(to)) {
+            (Some(from), Some(to)) => convert(registers, *op, from, to, a),
+            _ => Action::Fault(Fault::Unsupported),
         },
         Inst::Call { callee, args, .. } => match callees.get(callee.0 as usize) {
             Some(Callee::HaftOut) => call_output(registers, args.items()),

@@ -8,5 +8,7 @@
 mod actions;
 mod files;
 
-pub use actions::{Action, Callee, Fault, Request, action_of, callees_of};
+pub use actions::{
+    Action, Callee, Fault, Request, action_of, callees_of, int_width, is_conversion,
+};
 pub use files::Registers;

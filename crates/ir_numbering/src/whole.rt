@@ -24,12 +24,7 @@ fn places_of_module(tree: &Module, alloc: Global) -> Result<Places, AllocError>
 }
 
 // The tables of a module without parts take the names of a tree.
-fn number_names(
-    tree: &Module,
-    text: &[u8],
-    m: &mut Module,
-    alloc: Global,
-) -> Result<(), AllocError>
+fn number_names(tree: &Module, text: &[u8], m: &mut Module, alloc: Global) -> Result<(), AllocError>
     ensures { OnOk result (m.new ≡ module_with text.now (places_of_module tree.now) m.old) }
 {
     let places = places_of_module(tree, alloc)?;
@@ -88,7 +83,7 @@ fn fill_declares(
     ensures { OnOk result
         (m.new ≡ record m.old {
           declares = m.old.declares
-            ++ map (renamed_declare (renaming_outside text.now m.old)) declares.now;
+              ++ map (renamed_declare (renaming_outside text.now m.old)) declares.now;
         }) }
 {
     for declare in declares {
@@ -99,12 +94,7 @@ fn fill_declares(
 }
 
 // Adds the functions with the numbers of their names.
-fn fill_funcs(
-    funcs: &[Func],
-    text: &[u8],
-    m: &mut Module,
-    alloc: Global,
-) -> Result<(), AllocError>
+fn fill_funcs(funcs: &[Func], text: &[u8], m: &mut Module, alloc: Global) -> Result<(), AllocError>
     ensures { OnOk result
         (m.new ≡ record m.old { funcs = m.old.funcs ++ map (numbered_func text.now m.old) funcs.now }) }
 {
@@ -116,12 +106,7 @@ fn fill_funcs(
 }
 
 // Adds the parts of a tree to a module without parts, whose tables have their names.
-fn fill_parts(
-    tree: &Module,
-    text: &[u8],
-    m: &mut Module,
-    alloc: Global,
-) -> Result<(), AllocError>
+fn fill_parts(tree: &Module, text: &[u8], m: &mut Module, alloc: Global) -> Result<(), AllocError>
     requires { m.old ≡ module_with text.now (places_of_module tree.now) empty_module }
     ensures { OnOk result (m.new ≡ numbered_module text.now tree.now) }
 {

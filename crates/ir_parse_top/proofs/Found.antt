@@ -62,4 +62,4 @@ module _ (old new : Left) (number : ℕ) (tokens taken : List Token) (text : Lis
 pub nothing_trips : (old new : Left) (n : ℕ) (fault : Fault) → FindsNothing Function old new → n ≡ new.number → fault ≡ BadWord (codes "end") → TripsInside old n fault
 nothing_trips old new n fault f is word tree fn entry =
     subst (λ (ls : List Line). Trips old.text old.number (Inside tree fn entry []) ls n fault) (append-nil (lines_left old))
-      (trips_append old.text old.number (Inside tree fn entry []) (Inside tree fn entry []) (lines_left old) [] n fault (run_passed old.text (Inside tree fn entry []) (lines_left old) f.passed) (refl, is ∙ f.number, word))
+    (trips_append old.text old.number (Inside tree fn entry []) (Inside tree fn entry []) (lines_left old) [] n fault (run_passed old.text (Inside tree fn entry []) (lines_left old) f.passed) (refl, is ∙ f.number, word))

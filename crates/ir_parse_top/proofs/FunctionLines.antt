@@ -23,8 +23,8 @@ in_function old f entry = record { used = []; goes = goes_none old; run = λ tre
 pub trips_later : (old now : Left) (a b : Sheet) (used : List Line) (n : ℕ) (fault : Fault) → Goes used old now → Run old.text a used b → TripsFrom now b n fault → TripsFrom old a n fault
 trips_later old now a b used n fault goes run trips =
     subst (λ (ls : List Line). Trips old.text old.number a ls n fault) (sym goes.lines)
-      (trips_append old.text old.number a b used (lines_left now) n fault run
-        (subst (λ (m : ℕ). Trips old.text m b (lines_left now) n fault) goes.number (subst (λ (text : List ℕ). Trips text now.number b (lines_left now) n fault) goes.text trips)))
+    (trips_append old.text old.number a b used (lines_left now) n fault run
+    (subst (λ (m : ℕ). Trips old.text m b (lines_left now) n fault) goes.number (subst (λ (text : List ℕ). Trips text now.number b (lines_left now) n fault) goes.text trips)))
 
 -- runs over lines that were taken one after another
 pub run_on : (old now new : Left) (a b c : Sheet) (xs ys : List Line) → Goes xs old now → Run old.text a xs b → Run now.text b ys c → Run old.text a (xs ++ ys) c

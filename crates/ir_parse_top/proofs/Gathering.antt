@@ -45,11 +45,11 @@ module _ (old new : Left) (line : Line) (number : ℕ) (before after : List Toke
     where
       few : length after < new.at
       few = let e : length after ≡ length before + length own_moved = ap length adds.joined ∙ length-append before own_moved in
-            let m : length own_moved ≡ length adds.own = length-map adds.own (moved line.at) in
-            let c : length adds.own ≤ length line.bytes = adds.within.count in
-            let f : length before < old.at = s.few in
-            let a : new.at ≡ old.at + length line.bytes + 1 = t.at in
-            omega (arith, e, m, c, f, a)
+          let m : length own_moved ≡ length adds.own = length-map adds.own (moved line.at) in
+          let c : length adds.own ≤ length line.bytes = adds.within.count in
+          let f : length before < old.at = s.few in
+          let a : new.at ≡ old.at + length line.bytes + 1 = t.at in
+          omega (arith, e, m, c, f, a)
 
   pub grows_by : AreSound old before → new.at ≤ length old.text + 1 → closes old.text own_moved ≡ false → GrowsBy old new before after
   grows_by s inside unclosed = record { line = line; own = adds.own; lines = t.lines; number = t.next; ahead = (let a : new.at ≡ old.at + length line.bytes + 1 = t.at in omega (arith, a)); is = adds.is; unclosed = unclosed; joined = adds.joined; sound = sound_more s inside }
@@ -117,11 +117,12 @@ module _ (old middle new : Left) (tokens all after : List Token) (counts counts'
     where
       unclosed : closes old.text (all_moved b.line.at b.own) ≡ false
       unclosed = subst (λ (text : List ℕ). closes text (all_moved b.line.at b.own) ≡ false) g.text b.unclosed
+
       grows : (more : List Line) (last : List Token) (others : List ℕ) → Grows old.text after more last others → Grows old.text tokens ((g.used ++ b.line ∷ []) ++ more) last (counts' ++ others)
       grows more last others h =
           let next = g.grows (b.line ∷ more) last (length all ∷ others) (b.own, others, b.is, unclosed, refl, subst (λ (ts : List Token). Grows old.text ts more last others) b.joined h) in
           subst (λ (ls : List Line). Grows old.text tokens ls last (counts' ++ others)) (sym (append_assoc g.used (b.line ∷ []) more))
-            (subst (λ (ns : List ℕ). Grows old.text tokens (g.used ++ b.line ∷ more) last ns) (sym (ap (λ (ns : List ℕ). ns ++ others) more_counts ∙ append_assoc counts (length all ∷ []) others)) next)
+          (subst (λ (ns : List ℕ). Grows old.text tokens (g.used ++ b.line ∷ more) last ns) (sym (ap (λ (ns : List ℕ). ns ++ others) more_counts ∙ append_assoc counts (length all ∷ []) others)) next)
 
   pub gathers : (pause : Pause) → ComesTo middle new all after pause → Gathers old new tokens after counts' pause
   unfolding Grows

@@ -129,7 +129,7 @@ module _ (text : List ℕ) where
     line_leads t [] line is_open is closed fits = Blank (not_dropped t line.bytes is_open) is (ap behind (append-nil t))
     line_leads t (o ∷ own) line is_open is closed fits =
         Said (t ++ all_moved line.at (o ∷ own)) (record { tokens = o ∷ own; kept = not_dropped t line.bytes is_open; own = is; some = λ e. cons_isnt_nil e; whole = refl })
-          (inr (record { unclosed = unclosed_joined t (all_moved line.at (o ∷ own)) is_open closed; fits = fits }, refl))
+        (inr (record { unclosed = unclosed_joined t (all_moved line.at (o ∷ own)) is_open closed; fits = fits }, refl))
 
     -- tokens that fit are read, line by line
     pub runs_through : (t : List Token) (used : List Line) (all : List Token) (counts : List ℕ) → unclosed_at t → Grows text t used all counts → unfit_at all (length all) → Run text (behind t) used (behind all)
@@ -152,23 +152,30 @@ module _ (text : List ℕ) where
       where
         next : List Token
         next = t ++ all_moved line.at g.0
+
         x : Extends next used all g.1
         x = extends next used all g.1 g.5
+
         here : count_until k counts ≡ 1 + count_until k g.1
         here = ap (count_until k) g.4 ∙ count_more k (length t) g.1 low
+
         still : unclosed_at next
         still = unclosed_joined t (all_moved line.at g.0) is_open g.3
+
         some : k < length next → g.0 ≡ [] → ⊥
         some h e = let n : length next ≡ length t = ap (λ (own : List Token). length (t ++ all_moved line.at own)) e ∙ ap length (append-nil t) in omega (arith, n, h, low)
+
         by : (b : Bool) → leb (length next) k ≡ b → (length next ≤ k → n + 1 ≡ (number + 1) + count_until k g.1 → Trips text (number + 1) (behind next) (used ++ rest) n (word_at text all k)) → Trips text number (behind t) (line ∷ (used ++ rest)) n (word_at text all k)
         by false e again =
             let h : k < length next = leb-false (length next) k e in
             let none : count_until k g.1 ≡ 0 = count_head k next used all g.1 g.5 h in
             let c : count_until k counts ≡ 1 + count_until k g.1 = here in
             let i : n + 1 ≡ number + count_until k counts = is in
-            inl (let at : n ≡ number = omega (arith, none, c, i) in at,
+            inl (
+              let at : n ≡ number = omega (arith, none, c, i) in at,
               AtWord next k (record { tokens = g.0; kept = not_dropped t line.bytes is_open; own = g.2; some = some h; whole = refl })
-                (unfit_before next x.extra all k x.is u h, λ same. absurd (omega (arith, same, h))) (same_word next x.extra all k x.is h))
+                  (unfit_before next x.extra all k x.is u h, λ same. absurd (omega (arith, same, h))) (same_word next x.extra all k x.is h),
+            )
         by true e again =
             let h : length next ≤ k = leb-true (length next) k e in
             let c : count_until k counts ≡ 1 + count_until k g.1 = here in

@@ -10,6 +10,7 @@ mod Groups
 mod SwitchLines
 mod FunctionLines
 mod TreeLines
+mod Numerals
 mod TextLaws
 mod CountLaws
 mod NumeralLaws

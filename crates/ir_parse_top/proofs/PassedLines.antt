@@ -39,9 +39,9 @@ goes_on a b old middle new before after = record {
   text = after.text ∙ before.text;
   lines = before.lines ∙ ap (λ (l : List Line). a ++ l) after.lines ∙ sym (append_assoc a b (lines_left new));
   number = (let n : new.number ≡ middle.number + length b = after.number in
-            let m : middle.number ≡ old.number + length a = before.number in
-            let e : length (a ++ b) ≡ length a + length b = length-append a b in
-            omega (arith, n, m, e));
+      let m : middle.number ≡ old.number + length a = before.number in
+      let e : length (a ++ b) ≡ length a + length b = length-append a b in
+      omega (arith, n, m, e));
 }
 
 pub goes_one : (line : Line) (number : ℕ) (old new : Left) → Takes line number old new → Goes (line ∷ []) old new
@@ -63,11 +63,13 @@ passes_more place old middle new line number before t passed = record {
 
 pub moved_within : (size at len : ℕ) (tokens : List Token) → at + len ≤ size → AllByRecursion (IsWithin len) tokens → AllByRecursion (IsWithin size) (all_moved at tokens)
 moved_within size at len [] h all = tt
-moved_within size at len (t ∷ tokens) h all =
-    (record {
-       ordered = (let o : t.start ≤ t.end = all.0.ordered in omega (arith, o));
-       inside = (let i : t.end ≤ len = all.0.inside in omega (arith, i, h));
-     }, moved_within size at len tokens h all.1)
+moved_within size at len (t ∷ tokens) h all = (
+  record {
+    ordered = (let o : t.start ≤ t.end = all.0.ordered in omega (arith, o));
+    inside = (let i : t.end ≤ len = all.0.inside in omega (arith, i, h));
+  },
+  moved_within size at len tokens h all.1,
+)
 
 blank_again : (at : ℕ) (own tokens : List Token) → tokens ≡ all_moved at own → tokens ≡ [] → own ≡ []
 blank_again at [] tokens e none = refl
@@ -100,8 +102,10 @@ finds_text place old middle new line number before after none p t kept adds some
   where
     joined : after ≡ all_moved line.at adds.own
     joined = adds.joined ∙ ap (λ (ts : List Token). ts ++ all_moved line.at adds.own) none
+
     in_text : line.at + length line.bytes ≤ length old.text
     in_text = subst (λ (bytes : List ℕ). line.at + length line.bytes ≤ length bytes) p.goes.text t.within
+
     length_is : length after ≡ length adds.own
     length_is = ap length joined ∙ length-map adds.own (moved line.at)
 

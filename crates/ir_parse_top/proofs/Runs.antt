@@ -61,11 +61,11 @@ module _ (place : LinePlace) (sheet : Sheet) (here : place_behind sheet ≡ plac
   pub text_trips : (old new : Left) (number : ℕ) (tokens : List Token) (n k : ℕ) (fault : Fault) (f : FindsText place old new number tokens) → n ≡ number → CantStand old.text sheet tokens k → fault ≡ word_at old.text tokens k → TripsFrom old sheet n fault
   text_trips old new number tokens n k fault f is unfit word =
       subst (λ (ls : List Line). Trips old.text old.number sheet ls n fault) (sym (f.goes.lines ∙ append_assoc f.used (f.line ∷ []) (lines_left new)))
-        (trips_here old.text old.number sheet sheet f.used (lines_left new) f.line n fault (passed_at old.text f.used f.passed) (is ∙ f.number_is) (AtWord tokens k (has_text old new number tokens f) unfit word))
+      (trips_here old.text old.number sheet sheet f.used (lines_left new) f.line n fault (passed_at old.text f.used f.passed) (is ∙ f.number_is) (AtWord tokens k (has_text old new number tokens f) unfit word))
 
   -- a line with a bad byte
   pub bad_trips : (old : Left) (n : ℕ) (fault : Fault) → FindsBad place old n fault → TripsFrom old sheet n fault
   bad_trips old n fault f =
       subst (λ (ls : List Line). Trips old.text old.number sheet ls n fault) (sym f.lines)
-        (trips_here old.text old.number sheet sheet f.used f.rest f.line n fault (passed_at old.text f.used f.passed) f.n_is
-          (AtByte f.column (subst (λ (p : LinePlace). IsDropped p f.line.bytes → ⊥) (sym here) f.kept) f.bad f.fault_is))
+      (trips_here old.text old.number sheet sheet f.used f.rest f.line n fault (passed_at old.text f.used f.passed) f.n_is
+      (AtByte f.column (subst (λ (p : LinePlace). IsDropped p f.line.bytes → ⊥) (sym here) f.kept) f.bad f.fault_is))

@@ -60,4 +60,4 @@ module _ (old middle : Left) (before tree : ModuleParts) (i : InModule old middl
   pub finds_all : (new : Left) → FindsNothing Top middle new → FindsAll old before tree
   finds_all new f =
       subst (λ (ls : List Line). Run old.text (Outside before) ls (Outside tree)) (sym i.goes.lines)
-        (run_append old.text (Outside before) (Outside tree) (Outside tree) i.used (lines_left middle) i.run (run_passed old.text (Outside tree) (lines_left middle) f.passed))
+      (run_append old.text (Outside before) (Outside tree) (Outside tree) i.used (lines_left middle) i.run (run_passed old.text (Outside tree) (lines_left middle) f.passed))

@@ -57,8 +57,10 @@ module _ {A : Type 0} (means : List Tok → A → Type 0) where
     where
       short : length u.front < length a
       short = let p : k ≡ length u.front = u.place in omega (arith, p, h)
+
       s : Split u.front u.stop a b
       s = split u.front u.stop a b (sym u.whole) (omega (arith, short))
+
       nothing : (middle : List Tok) → a ≡ u.front ++ middle → u.stop ≡ middle ++ b → Fits means a → ⊥
       nothing [] left right f = let e : length a ≡ length u.front = ap length (left ∙ append-nil u.front) in omega (arith, e, short)
       nothing (token ∷ rest) left right f =

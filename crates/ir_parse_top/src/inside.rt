@@ -8,13 +8,14 @@ ghost use Rattle.ir_grammar.specs.Top.{body_line};
 ghost use Rattle.ir_parse_top.specs.Text.{is_unclosed, word_at};
 ghost use Rattle.ir_parse_top.specs.Reading.{Left, AreSound, FindsText, FindsBody, TripsInside, Told};
 
+use crate::ParseError;
 use crate::cursor::Lines;
 use crate::errors::{refused, refused_at};
 use crate::passing::next_text;
 use crate::switches::{gather, is_unclosed, judge};
-use crate::{ParseError, read_body_line};
 use ir_core::{LinePlace, Token};
 use ir_grammar::BodyLine;
+use ir_parse_lines::read_body_line;
 use ir_parse_parts::LineError;
 use std::alloc::Global;
 
@@ -31,8 +32,8 @@ fn body_of(
     ensures err { IfErr result (Told (λ n fault.
         (n ≡ number)
         × ((k : ℕ)
-          × IsUnfit body_line.means (tokens_of text.now tokens.now) k
-          × (fault ≡ word_at text.now tokens.now k)))) }
+        × IsUnfit body_line.means (tokens_of text.now tokens.now) k
+        × (fault ≡ word_at text.now tokens.now k)))) }
 {
     match read_body_line(alloc, text, tokens) {
         Ok(line) => Ok(line),

@@ -8,30 +8,26 @@ ghost use Rattle.ir_grammar.specs.Top.{top_line};
 ghost use Rattle.ir_parse_top.specs.Text.{word_at};
 ghost use Rattle.ir_parse_top.specs.Reading.{FindsTop, FindsNothing, TripsOutside, Told};
 
+use crate::ParseError;
 use crate::cursor::Lines;
 use crate::errors::refused_at;
 use crate::passing::next_text;
-use crate::{ParseError, read_top_line};
 use ir_core::{LinePlace, Token};
 use ir_grammar::TopLine;
+use ir_parse_lines::read_top_line;
 use ir_parse_parts::LineError;
 use std::alloc::Global;
 
 /// What the tokens of a line outside functions stand for.
-fn top_of(
-    alloc: Global,
-    text: &[u8],
-    number: u32,
-    tokens: &[Token],
-) -> Result<TopLine, ParseError>
+fn top_of(alloc: Global, text: &[u8], number: u32, tokens: &[Token]) -> Result<TopLine, ParseError>
     requires short { length text.now ≤ 4194304 }
     requires within { AreWithin (length text.now) tokens.now }
     ensures line { IfOk result (IsLine top_line.means (tokens_of text.now tokens.now)) }
     ensures err { IfErr result (Told (λ n fault.
         (n ≡ number)
         × ((k : ℕ)
-          × IsUnfit top_line.means (tokens_of text.now tokens.now) k
-          × (fault ≡ word_at text.now tokens.now k)))) }
+        × IsUnfit top_line.means (tokens_of text.now tokens.now) k
+        × (fault ≡ word_at text.now tokens.now k)))) }
 {
     match read_top_line(alloc, text, tokens) {
         Ok(line) => Ok(line),

@@ -12,12 +12,13 @@ ghost use Rattle.ir_parse_top.specs.Text as texts;
 ghost use Rattle.ir_parse_top.specs.Reading.{AreSound, GrowsBy, ComesTo, Gathers, Blames, fault_at, count_until, Told, IsAt};
 ghost use Rattle.ir_parse_top.specs.declared.switches.Pause.TheVariants as pauses;
 
+use crate::ParseError;
 use crate::cursor::{Lines, add_tokens};
 use crate::errors::{refused, refused_at};
-use crate::{ParseError, read_body_line};
 use ir_core::Token;
 use ir_grammar::BodyLine;
 use ir_lex::LexError;
+use ir_parse_lines::read_body_line;
 use ir_parse_parts::{LineError, Tok};
 use std::alloc::{AllocError, Global};
 

@@ -1,9 +1,9 @@
 //! Whole texts.
-ghost use Rattle.std.specs.Prelude.{◌≡◌, ◌≤◌, ◌+◌, ◌++◌, ℕ, List, length, IfOk, IfErr, IsErrOf, OnOk};
+ghost use Rattle.std.specs.Prelude.{◌≡◌, ◌≤◌, ◌-◌, ◌++◌, ℕ, List, length, replicate, IfOk, IfErr, IsErrOf, OnOk};
 ghost use Rattle.ir_core.specs.Module.{empty_module};
 ghost use Rattle.ir_numbering.specs.Numbers.{numbered_module};
-ghost use Rattle.ir_parse_top.specs.Sheet.{Outside, with_top, numeral, numerals, with_numerals};
-ghost use Rattle.ir_parse_top.specs.Text.{HasTree, Text, Unfit, numerals_for};
+ghost use Rattle.ir_parse_top.specs.Sheet.{Outside, with_top, numeral, with_numerals};
+ghost use Rattle.ir_parse_top.specs.Text.{Text, Unfit, numerals_for};
 ghost use Rattle.ir_parse_top.specs.Text as texts;
 ghost use Rattle.ir_parse_top.specs.Reading.{Follows, FindsAll, TripsFrom, Told};
 ghost use Rattle.ir_parse_top.specs.declared.errors.ParseError.TheVariants.{Refused, BadByte};
@@ -76,6 +76,16 @@ fn numerals_for(funcs: &[Func]) -> usize
     most
 }
 
+/// Adds blanks up to eight bytes, where so many bytes stand already.
+fn add_blanks(text: &mut Vec<u8>, len: usize) -> Result<(), AllocError>
+    ensures { OnOk result (text.new.items ≡ text.old.items ++ replicate (8 - len) 32) }
+{
+    for _blank in len..8 {
+        text.push(b' ')?;
+    }
+    Ok(())
+}
+
 /// Adds a number's digits, with blanks behind them up to eight bytes.
 #[tactic(auto, unfolding(crate::specs::Sheet::numeral))]
 fn add_numeral(text: &mut Vec<u8>, n: usize) -> Result<(), AllocError>
@@ -84,12 +94,11 @@ fn add_numeral(text: &mut Vec<u8>, n: usize) -> Result<(), AllocError>
     let mut buffer = itoa::Buffer::new();
     let digits = buffer.format(n).as_bytes();
     text.extend_from_slice(digits)?;
-    text.extend_from_slice(b"        ".get(digits.len()..).unwrap_or(&[]))?;
+    add_blanks(text, digits.len())?;
     Ok(())
 }
 
 /// The text with so many numerals behind it.
-#[tactic(auto, unfolding(crate::specs::Sheet::numerals))]
 fn with_numerals(alloc: Global, count: usize, text: &[u8]) -> Result<Vec<u8>, AllocError>
     ensures { IfOk result (λ bytes. bytes.items ≡ with_numerals count text.now) }
 {

@@ -10,7 +10,7 @@ mod predicates;
 mod tables;
 mod words;
 
-pub use tables::{bin, cast, cmp, rmw};
+pub use tables::{bin, bit_count, cast, cmp, low_word, rmw};
 pub use words::Word;
 
 /// Why an operator has no result on two words (LLVM Language Reference, 'Binary Operations').

@@ -19,6 +19,20 @@ macro_rules! at_width {
     };
 }
 
+/// How many bits a word has (LLVM Language Reference, 'Integer Type').
+#[inline]
+pub fn bit_count(w: Width) -> u32
+    ensures { result ≡ bits w }
+{
+    match w {
+        Width::W1 => 1,
+        Width::W8 => 8,
+        Width::W16 => 16,
+        Width::W32 => 32,
+        Width::W64 => 64,
+    }
+}
+
 /// What a binary operator gives on two words of `w` bits, or why it has no result; a division that is undefined
 /// comes before poison (LLVM Language Reference, 'Binary Operations', 'Bitwise Binary Operations').
 #[inline]
@@ -58,8 +72,9 @@ fn signed_word(w: Width, z: i64) -> u64
     at_width!(w, signed_word(z))
 }
 
-/// A number modulo 2^w.
-fn low_word(w: Width, n: u64) -> u64
+/// A number modulo 2^w: the word of `w` bits that it ends in.
+#[inline]
+pub fn low_word(w: Width, n: u64) -> u64
     ensures value { result ≡ n % 2 ^ bits w }
     ensures below { result < 2 ^ bits w }
 {

@@ -2,7 +2,7 @@ use Rattle.std.proofs.Common.{length, ap, sym, ◌∙◌, arith}
 use Rattle.haft_run.specs.State.{state_of}
 use Rattle.haft_run.specs.Hard.{Machine, Turn, opening, run_from}
 use Rattle.haft_run.specs.Turns.{turns_of_main, result_of}
-use Rattle.haft_run.proofs.SmallTexts.{small_is_defined}
+use Rattle.haft_run.proofs.SmallTexts.{small_is_good}
 use Rattle.haft_run.proofs.Events.{length-event}
 use Rattle.haft_run.proofs.Repeats.{run_from-replicate, run_from-none}
 use Rattle.haft_run.proofs.Simulation.{run_on-means}
@@ -34,4 +34,4 @@ pub returns-clause-meaning : goal.returns-clause-meaning
 returns-clause-meaning c = λ d. rw (returns-clause-exact c) (run_on-means c.args.m.now (turns_of_main c.args.turns) d)
 
 pub returns-clause-small : goal.returns-clause-small
-returns-clause-small c = λ text x. returns-clause-meaning c (small_is_defined text c.args.m.now x)
+returns-clause-small c = λ text x. returns-clause-meaning c (small_is_good text c.args.m.now x)

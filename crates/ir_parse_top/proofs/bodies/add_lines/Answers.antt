@@ -15,9 +15,9 @@ returns-in_err-line-clause-err c =
 pub returns-then-branch-clause-found : goal.returns-then-branch-clause-found
 returns-then-branch-clause-found c =
     finds_end c.args.lines.now c.lines.lines c.next_body.new.lines c.args.f.now c.lines.f c.add_line.new.f c.args.entry c.in_ok-line.line c.lines.invariant c.in_ok-line.ensures.line
-      (subst (λ (over : Bool). (tree : ModuleParts) → with_body tree c.lines.f c.args.entry c.in_ok-line.line ≡ sheet_behind over tree c.add_line.new.f c.args.entry) c.if-branch.true c.in_ok-add_line.ensures)
+    (subst (λ (over : Bool). (tree : ModuleParts) → with_body tree c.lines.f c.args.entry c.in_ok-line.line ≡ sheet_behind over tree c.add_line.new.f c.args.entry) c.if-branch.true c.in_ok-add_line.ensures)
 
 pub lines-preserved : goal.lines-preserved
 lines-preserved c =
     in_function_more c.args.lines.now c.lines.lines c.next_body.new.lines c.args.f.now c.lines.f c.add_line.new.f c.args.entry c.in_ok-line.line c.lines.invariant c.in_ok-line.ensures.line
-      (subst (λ (over : Bool). (tree : ModuleParts) → with_body tree c.lines.f c.args.entry c.in_ok-line.line ≡ sheet_behind over tree c.add_line.new.f c.args.entry) c.if-branch.false c.in_ok-add_line.ensures)
+    (subst (λ (over : Bool). (tree : ModuleParts) → with_body tree c.lines.f c.args.entry c.in_ok-line.line ≡ sheet_behind over tree c.add_line.new.f c.args.entry) c.if-branch.false c.in_ok-add_line.ensures)

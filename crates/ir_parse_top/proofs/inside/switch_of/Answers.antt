@@ -17,9 +17,9 @@ judge-requires-clause-small c =
 pub returns-clause-line : goal.returns-clause-line
 returns-clause-line c old f unclosed =
     ok_map (λ (line : BodyLine). IsLine body_line.means (tokens_of c.text.result.now c.deref.result.now) line × (c.in_ok-pause.pause ≡ Closed)) (FindsBody old c.gather.new.lines) c.judge.result
-      (found_by old c.args.lines.now c.gather.new.lines c.args.number c.args.tokens.items c.gather.new.tokens.items c.gather.new.counts.items c.in_ok-pause.pause f unclosed c.in_ok-pause.ensures.gathered c.text.result.now c.deref.result.now c.text.ensures.text c.gather.ensures.text c.deref.ensures.value) c.judge.ensures.line
+    (found_by old c.args.lines.now c.gather.new.lines c.args.number c.args.tokens.items c.gather.new.tokens.items c.gather.new.counts.items c.in_ok-pause.pause f unclosed c.in_ok-pause.ensures.gathered c.text.result.now c.deref.result.now c.text.ensures.text c.gather.ensures.text c.deref.ensures.value) c.judge.ensures.line
 
 pub returns-clause-err : goal.returns-clause-err
 returns-clause-err c old f unclosed =
     err_map (Blames c.text.result.now c.args.number c.deref.result.now c.deref-2.result.now c.in_ok-pause.pause) (TripsInside old) c.judge.result
-      (trips_by old c.args.lines.now c.gather.new.lines c.args.number c.args.tokens.items c.gather.new.tokens.items c.gather.new.counts.items c.in_ok-pause.pause f unclosed c.in_ok-pause.ensures.gathered c.text.result.now c.deref.result.now c.text.ensures.text c.gather.ensures.text c.deref.ensures.value c.deref-2.result.now c.deref-2.ensures.value) c.judge.ensures.err
+    (trips_by old c.args.lines.now c.gather.new.lines c.args.number c.args.tokens.items c.gather.new.tokens.items c.gather.new.counts.items c.in_ok-pause.pause f unclosed c.in_ok-pause.ensures.gathered c.text.result.now c.deref.result.now c.text.ensures.text c.gather.ensures.text c.deref.ensures.value c.deref-2.result.now c.deref-2.ensures.value) c.judge.ensures.err

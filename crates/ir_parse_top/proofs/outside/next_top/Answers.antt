@@ -19,7 +19,7 @@ returns-in_err-line-in-Some-clause-err c =
     let p = err_from_is_err_and c.from_residual-in_err-line-in-Some.result c.from_residual-in_err-line-in-Some.ensures.1 in
     let f = subst (λ (o : Option ℕ). IfSome o (λ number. FindsText Top c.args.lines.now c.next_text.new.lines number c.next_text.new.tokens.items)) c.in-Some.is c.in_ok-number.ensures.found in
     rw (p.1, p.2) (told_map (UnfitTop c.text.result.now c.deref.result.now c.in-Some.number) (TripsOutside c.args.lines.now) c.in_err-line-in-Some.field-0.0
-      (top_trips c.args.lines.now c.next_text.new.lines c.in-Some.number c.next_text.new.tokens.items c.deref.result.now c.text.result.now c.text.ensures.text c.deref.ensures.value f) c.in_err-line-in-Some.ensures.err)
+    (top_trips c.args.lines.now c.next_text.new.lines c.in-Some.number c.next_text.new.tokens.items c.deref.result.now c.text.result.now c.text.ensures.text c.deref.ensures.value f) c.in_err-line-in-Some.ensures.err)
 
 pub returns-in-Some-clause-found : goal.returns-in-Some-clause-found
 returns-in-Some-clause-found c =

@@ -8,8 +8,8 @@ use Rattle.ir_parse_top.proofs.switches.gather.Goals as goal
 pub returns-in-Some-clause-gathered : goal.returns-in-Some-clause-gathered
 returns-in-Some-clause-gathered c =
     gathers c.args.lines.now c.lines.lines c.gather_line.new.lines c.args.tokens.now.items c.lines.tokens.items c.gather_line.new.tokens.items c.lines.counts.items c.push.new.self.items c.lines.invariant
-      (c.in_ok-push.ensures.items ∙ ap (λ (n : ℕ). c.lines.counts.items ++ n ∷ []) (ap length c.as_slice.ensures.value)) c.in-Some.pause
-      (subst (λ (o : Option Pause). IfSome o (ComesTo c.lines.lines c.gather_line.new.lines c.lines.tokens.items c.gather_line.new.tokens.items)) c.in-Some.is c.in_ok-pause.ensures.over)
+    (c.in_ok-push.ensures.items ∙ ap (λ (n : ℕ). c.lines.counts.items ++ n ∷ []) (ap length c.as_slice.ensures.value)) c.in-Some.pause
+    (subst (λ (o : Option Pause). IfSome o (ComesTo c.lines.lines c.gather_line.new.lines c.lines.tokens.items c.gather_line.new.tokens.items)) c.in-Some.is c.in_ok-pause.ensures.over)
 
 pub lines-smaller : goal.lines-smaller
 lines-smaller c =
@@ -18,5 +18,5 @@ lines-smaller c =
 pub lines-preserved : goal.lines-preserved
 lines-preserved c =
     gathered_more c.args.lines.now c.lines.lines c.gather_line.new.lines c.args.tokens.now.items c.lines.tokens.items c.gather_line.new.tokens.items c.lines.counts.items c.push.new.self.items c.lines.invariant
-      (c.in_ok-push.ensures.items ∙ ap (λ (n : ℕ). c.lines.counts.items ++ n ∷ []) (ap length c.as_slice.ensures.value))
-      (subst (λ (o : Option Pause). IfNone o (GrowsBy c.lines.lines c.gather_line.new.lines c.lines.tokens.items c.gather_line.new.tokens.items)) c.in_default.is c.in_ok-pause.ensures.more) c.gather_line.ensures.text
+    (c.in_ok-push.ensures.items ∙ ap (λ (n : ℕ). c.lines.counts.items ++ n ∷ []) (ap length c.as_slice.ensures.value))
+    (subst (λ (o : Option Pause). IfNone o (GrowsBy c.lines.lines c.gather_line.new.lines c.lines.tokens.items c.gather_line.new.tokens.items)) c.in_default.is c.in_ok-pause.ensures.more) c.gather_line.ensures.text

@@ -24,9 +24,9 @@ has_punct-requires-clause-within c =
 pub returns-then-has_punct-clause-over : goal.returns-then-has_punct-clause-over
 returns-then-has_punct-clause-over c =
     comes_to_closed c.args.lines.now c.next.new.self _ _ c.args.tokens.now.items c.add_tokens.new.all.items c.in-Some.ensures.some c.in-Ok.ensures.tokens c.requires.sound c.in-Some.ensures.within
-      (slice_closes c.args.lines.now c.next.new.self _ _ c.args.tokens.now.items c.add_tokens.new.all.items c.in-Some.ensures.some c.in-Ok.ensures.tokens c.text.result.now c.as_slice.result.now c.as_slice-count.result.now c.text.ensures.text c.as_slice.ensures.value c.as_slice-count.ensures.value true (sym c.has_punct.ensures ∙ c.if-has_punct.true))
+    (slice_closes c.args.lines.now c.next.new.self _ _ c.args.tokens.now.items c.add_tokens.new.all.items c.in-Some.ensures.some c.in-Ok.ensures.tokens c.text.result.now c.as_slice.result.now c.as_slice-count.result.now c.text.ensures.text c.as_slice.ensures.value c.as_slice-count.ensures.value true (sym c.has_punct.ensures ∙ c.if-has_punct.true))
 
 pub returns-clause-more : goal.returns-clause-more
 returns-clause-more c =
     grows_by c.args.lines.now c.next.new.self _ _ c.args.tokens.now.items c.add_tokens.new.all.items c.in-Some.ensures.some c.in-Ok.ensures.tokens c.requires.sound c.in-Some.ensures.within
-      (slice_closes c.args.lines.now c.next.new.self _ _ c.args.tokens.now.items c.add_tokens.new.all.items c.in-Some.ensures.some c.in-Ok.ensures.tokens c.text.result.now c.as_slice.result.now c.as_slice-count.result.now c.text.ensures.text c.as_slice.ensures.value c.as_slice-count.ensures.value false (sym c.has_punct.ensures ∙ c.if-has_punct.false))
+    (slice_closes c.args.lines.now c.next.new.self _ _ c.args.tokens.now.items c.add_tokens.new.all.items c.in-Some.ensures.some c.in-Ok.ensures.tokens c.text.result.now c.as_slice.result.now c.as_slice-count.result.now c.text.ensures.text c.as_slice.ensures.value c.as_slice-count.ensures.value false (sym c.has_punct.ensures ∙ c.if-has_punct.false))

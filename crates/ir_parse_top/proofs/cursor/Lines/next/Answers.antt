@@ -14,4 +14,4 @@ returns-clause-some c =
     let line = c.in_ok-bytes.bytes.now in
     let e = c.in_ok-bytes.ensures in
     subst (λ (l : Left). Takes (record { at = at; bytes = line }) number l (record { text = text; at = at + (length line + 1); number = number + 1 })) c.self.view_is
-      (takes text at number _ line c.in_ok-bytes.field-0-1.now (to_end text at) (let h : c.self.inside.at ≤ length c.self.inside.text.now = omega arith in h) e.lines e.first e.within)
+    (takes text at number _ line c.in_ok-bytes.field-0-1.now (to_end text at) (let h : c.self.inside.at ≤ length c.self.inside.text.now = omega arith in h) e.lines e.first e.within)

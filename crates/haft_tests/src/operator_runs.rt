@@ -1,0 +1,282 @@
+//! Runs of modules with operators, comparisons, selections and casts. Expected words are worked out from the LLVM
+//! Language Reference, expected turns from the images: two hardened instructions for each of these, a check for each
+//! register that is given out or returned.
+ghost use Rattle.std.specs.Prelude.{IsTrue};
+ghost use Rattle.haft_run.specs.Built.{IsBuilt};
+
+use haft_run::{built, report, run, upset_free};
+use ir_core::{Declare, Func, Module, Seq, Ty, Width};
+use ir_lex::lex_line;
+use ir_parse_body::parse_inst;
+use sched_file::parse_schedule;
+use std::alloc::Global;
+use std::process::Abort;
+
+/// The lines of a block, a schedule, and the report.
+const RUNS: &[(&str, &str, &str)] = &[
+    // The hardened operator has no flags, and so the sum wraps.
+    (
+        "%a = add nsw i8 127, 1\n%b = sext i8 %a to i64\ncall void @haft_out(i64 %b)\nret i32 0",
+        "turn 0 40",
+        "out 18446744073709551488\naborts 0 0 0 0\nstop end 0\nsrc 0*5\n",
+    ),
+    (
+        "%a = udiv exact i64 7, 2\ncall void @haft_out(i64 %a)\nret i32 0",
+        "turn 0 40",
+        "out 3\naborts 0 0 0 0\nstop end 0\nsrc 0*4\n",
+    ),
+    // Undefined divisions, and a shift by the width.
+    (
+        "%a = udiv i64 1, 0\nret i32 0",
+        "turn 0 9",
+        "aborts 0 0 0 0\nstop trap 0 main/0/0\nsrc\n",
+    ),
+    (
+        "%a = add i64 1, 2\ncall void @haft_out(i64 %a)\n%b = sdiv i32 -2147483648, -1\nret i32 %b",
+        "turn 0 40",
+        "out 3\naborts 0 0 0 0\nstop trap 0 main/0/4\nsrc 0*2\n",
+    ),
+    (
+        "%a = srem i1 1, 1\nret i32 0",
+        "turn 0 1\nabort 0\nturn 0 8",
+        "aborts 0 0 0 0\nstop trap 0 main/0/0\nsrc\n",
+    ),
+    (
+        "%a = shl i16 1, 16\nret i32 0",
+        "turn 0 9",
+        "aborts 0 0 0 0\nstop trap 0 main/0/0\nsrc\n",
+    ),
+    // A quotient is rounded toward zero, and a shift to the right keeps the sign.
+    (
+        "%a = sdiv i8 -7, 2\n%b = sext i8 %a to i64\ncall void @haft_out(i64 %b)\nret i32 0",
+        "turn 0 40",
+        "out 18446744073709551613\naborts 0 0 0 0\nstop end 0\nsrc 0*5\n",
+    ),
+    (
+        "%a = ashr i8 -8, 1\n%b = sext i8 %a to i64\ncall void @haft_out(i64 %b)\nret i32 0",
+        "turn 0 40",
+        "out 18446744073709551612\naborts 0 0 0 0\nstop end 0\nsrc 0*5\n",
+    ),
+    (
+        "%a = srem i8 -7, 2\n%b = zext i8 %a to i64\ncall void @haft_out(i64 %b)\nret i32 0",
+        "turn 0 40",
+        "out 255\naborts 0 0 0 0\nstop end 0\nsrc 0*5\n",
+    ),
+    // Comparisons choose: -1 is below 0 as a signed word, and the greatest word otherwise.
+    (
+        "%s = icmp slt i8 -1, 0\n%u = icmp ult i8 -1, 0\n%a = select i1 %s, i64 7, i64 9\n%b = select i1 %u, i64 7, i64 9\ncall void @haft_out(i64 %a)\ncall void @haft_out(i64 %b)\nret i32 0",
+        "turn 0 40",
+        "out 7\nout 9\naborts 0 0 0 0\nstop end 0\nsrc 0*8\n",
+    ),
+    // Casts between widths, and a register that is returned: master, shadow, a check, `ret`, the exit.
+    (
+        "%a = trunc i64 511 to i8\n%b = zext i8 %a to i64\n%c = sext i8 %a to i64\ncall void @haft_out(i64 %b)\ncall void @haft_out(i64 %c)\nret i32 0",
+        "turn 0 40",
+        "out 255\nout 18446744073709551615\naborts 0 0 0 0\nstop end 0\nsrc 0*7\n",
+    ),
+    (
+        "%r = mul i32 65536, 65537\nret i32 %r",
+        "turn 0 5",
+        "aborts 0 0 0 0\nstop end 65536\nsrc 0*3\n",
+    ),
+    (
+        "%r = mul i32 65536, 65537\nret i32 %r",
+        "turn 0 4",
+        "aborts 0 0 0 0\nstop bound\nsrc 0*2\n",
+    ),
+    (
+        "%r = mul i32 65536, 65537\nret i32 %r",
+        "turn 0 1",
+        "aborts 0 0 0 0\nstop bound\nsrc\n",
+    ),
+];
+
+/// Schedules for the sum, and what it comes to.
+const SCHEDULES: &[(&str, &str)] = &[
+    ("", "aborts 0 0 0 0\nstop bound\nsrc\n"),
+    ("# nothing\n\n", "aborts 0 0 0 0\nstop bound\nsrc\n"),
+    ("turn 0 5", "out 5\naborts 0 0 0 0\nstop bound\nsrc 0*3\n"),
+    ("turn 0 40", "out 5\naborts 0 0 0 0\nstop end 0\nsrc 0*4\n"),
+    (
+        "turn 3 5\nturn 0 40",
+        "out 5\naborts 0 0 0 0\nstop end 0\nsrc 0*4\n",
+    ),
+    (
+        "turn 0 2\nabort 0\nabort 63\nturn 0 40",
+        "out 5\naborts 0 0 0 0\nstop end 0\nsrc 0*4\n",
+    ),
+    (
+        "args 3 9\nround 3 40",
+        "out 5\naborts 0 0 0 0\nstop end 0\nsrc 0*4\n",
+    ),
+    ("round 3 5", "out 5\naborts 0 0 0 0\nstop bound\nsrc 0*3\n"),
+    ("mix 3 0 1", "aborts 0 0 0 0\nstop bound\nsrc\n"),
+    ("mix 1 0 6", "out 5\naborts 0 0 0 0\nstop end 0\nsrc 0*4\n"),
+    ("turn 63 4194304", "aborts 0 0 0 0\nstop bound\nsrc\n"),
+];
+
+/// Adds 2 and 3, and gives the sum out.
+const SUM: &str = "%a = add i64 2, 3\ncall void @haft_out(i64 %a)\nret i32 0";
+
+/// Blocks, and whether they are built.
+const FORMS: &[(&str, bool)] = &[
+    ("ret i32 0", true),
+    ("ret i64 0", false),
+    ("ret void", false),
+    (
+        "%a = add nuw nsw i8 1, 1\n%b = udiv exact i8 %a, %a\nret i32 0",
+        true,
+    ),
+    (
+        "%a = xor i1 1, 0\n%b = select i1 %a, i1 %a, i1 0\nret i32 0",
+        true,
+    ),
+    ("%a = add i8 1, 1\n%b = add i16 %a, 1\nret i32 0", false),
+    ("%a = add i16 1, 1\n%b = add i16 1, %b\nret i32 0", false),
+    (
+        "%a = add i8 1, 1\ncall void @haft_out(i64 %a)\nret i32 0",
+        false,
+    ),
+    ("%a = icmp eq i8 1, 1\n%b = add i8 %a, 1\nret i32 0", false),
+    ("%a = icmp eq i8 1, 1\n%b = add i1 %a, 1\nret i32 0", true),
+    ("%a = icmp eq ptr null, null\nret i32 0", false),
+    (
+        "%a = add i8 1, 1\n%b = select i1 %a, i8 1, i8 2\nret i32 0",
+        false,
+    ),
+    (
+        "%a = add i8 1, 1\n%b = select i1 1, i16 %a, i16 2\nret i32 0",
+        false,
+    ),
+    ("%a = select i1 1, ptr null, ptr null\nret i32 0", false),
+    (
+        "%a = zext i8 1 to i16\n%b = trunc i16 %a to i1\nret i32 0",
+        true,
+    ),
+    ("%a = zext i8 1 to i8\nret i32 0", false),
+    ("%a = sext i64 1 to i8\nret i32 0", false),
+    ("%a = trunc i8 1 to i16\nret i32 0", false),
+    ("%a = ptrtoint ptr null to i64\nret i32 0", false),
+    ("%a = inttoptr i64 1 to ptr\nret i32 0", false),
+    ("%a = add i32 1, 1\nret i32 %a", true),
+    ("%a = add i64 1, 1\nret i32 %a", false),
+    ("%a = add i64 1, 1\n%a = add i64 1, 1\nret i32 0", false),
+    ("%0 = add i64 1, 1\nret i32 0", false),
+    ("%a = add i64 1, 1", false),
+    ("ret i32 0\nret i32 0", false),
+    ("unreachable", false),
+    ("fence seq_cst\nret i32 0", false),
+];
+
+/// `main` of one block, whose name is 0, with these lines.
+fn main_of(rt: &impl Abort, alloc: Global, m: &mut Module, lines: &str) -> Func {
+    assert!(rt; m.sym_count() < 4_294_967_295);
+    let main = m.sym(b"main").expect(rt, "no memory for a name");
+    let mut function = Func::new(alloc, main, Ty::Int(Width::W32));
+    let label = function.loc(b"0").expect(rt, "no memory for a name");
+    function
+        .add_block(label)
+        .expect(rt, "no memory for a block");
+    for line in lines.lines() {
+        let line = line.as_bytes();
+        assert!(rt; line.len() <= 4_194_304);
+        let tokens = lex_line(alloc, line).expect(rt, "a line has no tokens");
+        let inst = parse_inst(alloc, m, &mut function, line, &tokens).expect(rt, "a line is unfit");
+        assert!(rt; !function.blocks().is_empty());
+        function.add_inst(inst).expect(rt, "no memory for a line");
+    }
+    function
+}
+
+/// The module of these lines, which may give numbers out.
+fn module_of(rt: &impl Abort, alloc: Global, lines: &str) -> Module {
+    let mut m = Module::new(alloc);
+    let sym = m.sym(b"haft_out").expect(rt, "no memory for a name");
+    let mut params = Seq::new(alloc);
+    params
+        .push(Ty::Int(Width::W64))
+        .expect(rt, "no memory for a type");
+    m.add_declare(Declare {
+        sym,
+        ret: Ty::Void,
+        params,
+    })
+    .expect(rt, "no memory for a declare");
+    let main = main_of(rt, alloc, &mut m, lines);
+    m.add_func(main).expect(rt, "no memory for a function");
+    m
+}
+
+/// Whether the module is built.
+fn is_built(m: &Module) -> bool
+    ensures { IsTrue result → IsBuilt m.now }
+{
+    built(m)
+}
+
+/// The report of the run over a schedule.
+fn report_of(rt: &impl Abort, alloc: Global, m: &Module, schedule: &str) -> Vec<u8> {
+    assert!(rt; schedule.len() <= 4_194_304);
+    let schedule = parse_schedule(alloc, schedule.as_bytes()).expect(rt, "a schedule is unfit");
+    assert!(rt; is_built(m));
+    assert!(rt; upset_free(&schedule));
+    let result = run(alloc, m, &schedule).expect(rt, "no memory to run");
+    report(alloc, &result).expect(rt, "no memory for a report")
+}
+
+#[test]
+fn operators_run_hardened(rt: HostRuntime) {
+    let alloc = rt.alloc();
+    for (lines, schedule, want) in RUNS {
+        let m = module_of(&rt, alloc, lines);
+        let found = report_of(&rt, alloc, &m, schedule);
+        assert!(rt;
+            found.as_slice() == want.as_bytes(),
+            "of {lines:?} over {schedule:?}"
+        );
+    }
+}
+
+#[test]
+fn runs_go_by_the_events_of_schedules(rt: HostRuntime) {
+    let alloc = rt.alloc();
+    let m = module_of(&rt, alloc, SUM);
+    for (schedule, want) in SCHEDULES {
+        let found = report_of(&rt, alloc, &m, schedule);
+        assert!(rt; found.as_slice() == want.as_bytes(), "over {schedule:?}");
+    }
+}
+
+#[test]
+fn registers_are_used_at_their_width(rt: HostRuntime) {
+    let alloc = rt.alloc();
+    for (lines, want) in FORMS {
+        let m = module_of(&rt, alloc, lines);
+        assert!(rt; built(&m) == *want, "for {lines:?}");
+    }
+}
+
+/// A register stands so far from its use, behind lines without a result, that it is looked for.
+#[test]
+fn far_registers_are_found(rt: HostRuntime) {
+    let alloc = rt.alloc();
+    let mut lines = String::new(alloc);
+    for line in ["%a = add i64 1, 1\n", "%b = add i8 1, 1\n"] {
+        for _call in 0..100 {
+            lines
+                .push_str("call void @haft_out(i64 7)\n")
+                .expect(&rt, "no memory for lines");
+        }
+        lines.push_str(line).expect(&rt, "no memory for lines");
+    }
+    for _call in 0..100 {
+        lines
+            .push_str("call void @haft_out(i64 %a)\n")
+            .expect(&rt, "no memory for lines");
+    }
+    let good = format!(in alloc; "{lines}ret i32 0").expect(&rt, "no memory for lines");
+    let bad = format!(in alloc; "{lines}call void @haft_out(i64 %b)\nret i32 0");
+    let bad = bad.expect(&rt, "no memory for lines");
+    assert!(rt; built(&module_of(&rt, alloc, &good)));
+    assert!(rt; !built(&module_of(&rt, alloc, &bad)));
+}
