@@ -1,5 +1,5 @@
 -- A text stands for a module of no more instructions than the text has bytes.
-use Rattle.std.proofs.Common.{◌≡◌, ℕ, suc, ◌+◌, ◌≤◌, ◌⊎◌, inl, inr, Bool, true, false, cond, eqb, List, [], ◌∷◌, ◌++◌, length, map, ap, refl, sym, subst, ◌∙◌, arith}
+use Rattle.std.proofs.Common.{◌≡◌, ℕ, suc, ◌+◌, ◌≤◌, inl, inr, Bool, true, false, cond, eqb, List, [], ◌∷◌, ◌++◌, length, map, ap, refl, sym, subst, ◌∙◌, arith}
 use Rattle.std.proofs.lemmas.List.{length-append, length-map}
 use Rattle.std.proofs.lemmas.Grind.{flat_map-append}
 use Rattle.ir_core.specs.declared.text.Token.{Token}
@@ -15,7 +15,7 @@ use Rattle.ir_grammar.specs.declared.trees.BodyLine.TheVariants as bodies
 use Rattle.ir_numbering.specs.Renaming.{Renaming, renamed_block, renamed_inst}
 use Rattle.ir_numbering.specs.Numbers.{module_with, numbered_func, places_of_module, numbered_module}
 use Rattle.ir_parse_top.specs.Sheet.{Sheet, Outside, Inside, new_block, begun, with_top, with_body}
-use Rattle.ir_parse_top.specs.Text.{Line, placed, Says, Leads, Dropped, Blank, Said, Run, lines_placed, Text}
+use Rattle.ir_parse_top.specs.Text.{Line, placed, Says, Leads, Dropped, Blank, Said, Run, lines_placed}
 use Rattle.ir_parse_top.specs.Laws.{insts_of_blocks, insts_of_funcs, instruction_count, ModulesAreWithin, ModulesAreSmall}
 
 -- ---- instructions of blocks and functions

@@ -1,12 +1,13 @@
 -- Numerals behind a text are names there, and change no name in it.
-use Rattle.std.proofs.Common.{◌≡◌, ℕ, zero, suc, ◌+◌, ◌-◌, ◌*◌, ◌%◌, ◌^◌, ◌<◌, ◌≤◌, Bool, true, false, cond, List, [], ◌∷◌, ◌++◌, length, take, drop, replicate, ap, refl, sym, subst, ◌∙◌, arith}
+use Rattle.std.proofs.Common.{◌≡◌, ℕ, zero, suc, ◌+◌, ◌-◌, ◌*◌, ◌%◌, ◌^◌, ◌<◌, ◌≤◌, Bool, true, false, cond, List, [], ◌∷◌, ◌++◌, length, take, drop, replicate, ap, refl, sym, ◌∙◌, arith}
 use Rattle.std.specs.List.{prefix_len, list_all}
 use Rattle.std.specs.Fmt.{decimal}
 use Rattle.std.proofs.lemmas.Bool.Decides.{nat_tests}
 use Rattle.std.proofs.lemmas.List.{append_assoc, length-append, length-replicate, take_at, take-append-le, drop_at, drop-append-le, drop-drop}
 use Rattle.std.proofs.lemmas.List.Folds.{list_all-append}
+use Rattle.std.proofs.lemmas.List.Sums.{prefix_len-le-length}
 use Rattle.std.proofs.lemmas.Fmt.{decimal_by_steps, length-decimal-le, decimal_nonempty}
-use Rattle.ir_core.specs.Tokens.{is_digit, begins_name, is_name_byte, is_name}
+use Rattle.ir_core.specs.Tokens.{is_digit, begins_name, is_name_byte}
 use Rattle.ir_core.specs.TokenLengths.{name_len, name_from}
 use Rattle.ir_core.proofs.Lengths.{both, both_true, run_ends}
 use Rattle.ir_parse_top.specs.Sheet.{numeral, numerals, with_numerals, numeral_at}
@@ -26,6 +27,7 @@ all_digits = decimal_by_steps (λ n ds. list_all is_digit ds ≡ true) one more
     more : (n : ℕ) (ds : List ℕ) → 10 ≤ n → list_all is_digit ds ≡ true → list_all is_digit (ds ++ (48 + n % 10) ∷ []) ≡ true
     more n ds h all = list_all-append is_digit ds ((48 + n % 10) ∷ []) ∙ both (list_all is_digit ds) _ all (one (n % 10) (omega arith))
 
+-- no name of the other form begins by a digit
 digit_begins : (b : ℕ) → is_digit b ≡ true → begins_name b ≡ false
 digit_begins b e = grind (arith, nat_tests)
 
@@ -47,21 +49,23 @@ module _ (n : ℕ) (small : n < 10000000) where
   unfolding numeral
   eight = omega (arith, short, length-append (decimal n) (replicate (8 - length (decimal n)) 32), length-replicate {A = ℕ} (8 - length (decimal n)) 32)
 
-  -- the digits, a blank, and what follows
-  spaced : (rest : List ℕ) → (more : List ℕ) × (numeral n ++ rest ≡ decimal n ++ 32 ∷ more)
+  -- the blanks behind the first one, and what follows
+  abbrev behind_blank : List ℕ → List ℕ
+  behind_blank rest = replicate (7 - length (decimal n)) 32 ++ rest
+
+  spaced : (rest : List ℕ) → numeral n ++ rest ≡ decimal n ++ 32 ∷ behind_blank rest
   unfolding numeral
   spaced rest =
       let count : 8 - length (decimal n) ≡ suc (7 - length (decimal n)) = omega (arith, short) in
-      let blanks : ◌≡◌ {A = List ℕ} (replicate (8 - length (decimal n)) 32) (replicate (suc (7 - length (decimal n))) 32) = ap (λ (k : ℕ). replicate {A = ℕ} k 32) count in
-      (replicate (7 - length (decimal n)) 32 ++ rest,
-       append_assoc (decimal n) (replicate (8 - length (decimal n)) 32) rest ∙ ap (λ (l : List ℕ). decimal n ++ (l ++ rest)) blanks)
+      append_assoc (decimal n) (replicate (8 - length (decimal n)) 32) rest ∙ ap (λ (k : ℕ). decimal n ++ (replicate {A = ℕ} k 32 ++ rest)) count
 
   -- the name at the front of a numeral
   front_name : (rest : List ℕ) → take (name_len (numeral n ++ rest)) (numeral n ++ rest) ≡ decimal n
   front_name rest =
-      let s = spaced rest in
-      let size : name_len (decimal n ++ 32 ∷ s.0) ≡ length (decimal n) = digits_end (decimal n) s.0 (all_digits n (omega (arith, small))) (decimal_nonempty n (omega (arith, small))) in
-      ap (λ (l : List ℕ). take (name_len l) l) s.1 ∙ take_at (decimal n) (32 ∷ s.0) (name_len (decimal n ++ 32 ∷ s.0)) (sym size)
+      let all : list_all is_digit (decimal n) ≡ true = all_digits n (omega (arith, small)) in
+      let some : 0 < length (decimal n) = decimal_nonempty n (omega (arith, small)) in
+      let size : name_len (decimal n ++ 32 ∷ behind_blank rest) ≡ length (decimal n) = digits_end (decimal n) (behind_blank rest) all some in
+      ap (λ (l : List ℕ). take (name_len l) l) (spaced rest) ∙ take_at (decimal n) (32 ∷ behind_blank rest) (name_len (decimal n ++ 32 ∷ behind_blank rest)) (sym size)
 
 first : (n count : ℕ) → numerals n (suc count) ≡ numeral n ++ numerals (n + 1) count
 unfolding numerals
@@ -91,13 +95,18 @@ behind_text text rest j =
     ∙ sym (drop-drop (suc j) (length text) (text ++ 10 ∷ rest))
     ∙ ap (drop (suc j)) (drop_at text (10 ∷ rest) (length text) refl)
 
+-- at the place of a numeral that numeral stands, and the later ones
+at_numeral : (text : List ℕ) (k more : ℕ) → k < 10000000 → drop (numeral_at text k).0 (with_numerals (k + suc more) text) ≡ numeral k ++ numerals (k + 1) more
+at_numeral text k more small =
+    let e : 0 + k ≡ k = omega arith in
+    behind_text text (numerals 0 (k + suc more)) (8 * k) ∙ later k 0 (suc more) (omega (arith, small)) ∙ ap (λ (n : ℕ). numerals n (suc more)) e ∙ first k more
+
 pub numerals_read : NumeralsAreRead
 numerals_read text count k within small =
     let e : count ≡ k + suc (count - k - 1) = omega (arith, within) in
-    let at : drop (numeral_at text k).0 (with_numerals count text) ≡ numerals (0 + k) (suc (count - k - 1)) =
-        behind_text text (numerals 0 count) (8 * k) ∙ ap (λ (c : ℕ). drop (8 * k) (numerals 0 c)) e ∙ later k 0 (suc (count - k - 1)) (omega (arith, small)) in
-    let front : numerals (0 + k) (suc (count - k - 1)) ≡ numeral k ++ numerals (k + 1) (count - k - 1) = ap (λ (n : ℕ). numerals n (suc (count - k - 1))) (omega arith) ∙ first k (count - k - 1) in
-    ap (λ (l : List ℕ). take (name_len l) l) (at ∙ front) ∙ front_name k small (numerals (k + 1) (count - k - 1))
+    ap (λ (c : ℕ). name_from (with_numerals c text) (numeral_at text k).0) e
+    ∙ ap (λ (l : List ℕ). take (name_len l) l) (at_numeral text k (count - k - 1) small)
+    ∙ front_name k small (numerals (k + 1) (count - k - 1))
 
 -- ---- names in the text
 
@@ -105,14 +114,6 @@ numerals_read text count k within small =
 same_run : (p : ℕ → Bool) (bytes rest : List ℕ) (c : ℕ) → p c ≡ false → prefix_len p (bytes ++ c ∷ rest) ≡ prefix_len p bytes
 same_run p [] rest c fails = rw fails refl
 same_run p (b ∷ bytes) rest c fails = ap (λ (n : ℕ). cond (p b) (1 + n) 0) (same_run p bytes rest c fails)
-
-run_within : (p : ℕ → Bool) (bytes : List ℕ) → prefix_len p bytes ≤ length bytes
-run_within p [] = omega arith
-run_within p (b ∷ bytes) = by (p b) (run_within p bytes)
-  where
-    by : (t : Bool) → prefix_len p bytes ≤ length bytes → cond t (1 + prefix_len p bytes) 0 ≤ suc (length bytes)
-    by true h = omega (arith, h)
-    by false h = omega arith
 
 same_name : (bytes rest : List ℕ) → name_len (bytes ++ 10 ∷ rest) ≡ name_len bytes
 same_name [] rest = refl
@@ -122,7 +123,7 @@ same_name (b ∷ bytes) rest =
 
 name_within : (bytes : List ℕ) → name_len bytes ≤ length bytes
 name_within [] = omega arith
-name_within (b ∷ bytes) = by (begins_name b) (run_within is_name_byte bytes) (run_within is_digit (b ∷ bytes))
+name_within (b ∷ bytes) = by (begins_name b) (prefix_len-le-length is_name_byte bytes) (prefix_len-le-length is_digit (b ∷ bytes))
   where
     by : (t : Bool) → prefix_len is_name_byte bytes ≤ length bytes → prefix_len is_digit (b ∷ bytes) ≤ suc (length bytes) → cond t (1 + prefix_len is_name_byte bytes) (prefix_len is_digit (b ∷ bytes)) ≤ suc (length bytes)
     by true h g = omega (arith, h)

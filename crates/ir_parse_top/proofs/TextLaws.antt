@@ -1,25 +1,21 @@
 -- Every text stands for one module or has one first line that fits no form, and never both.
-use Rattle.std.proofs.Common.{◌≡◌, ℕ, suc, ◌+◌, ◌<◌, ◌⊎◌, inl, inr, Bool, true, false, List, [], ◌∷◌, ◌++◌, length, ap, refl, sym, subst, ◌∙◌, arith}
+use Rattle.std.proofs.Common.{◌≡◌, ℕ, suc, ◌+◌, ◌⊎◌, inl, inr, Bool, true, false, List, [], ◌∷◌, ◌++◌, length, ap, refl, sym, subst, ◌∙◌, arith}
 use Rattle.std.proofs.lemmas.Bool.{false≢true, cases_eq}
 use Rattle.ir_core.specs.declared.text.Token.{Token}
-use Rattle.ir_core.specs.declared.types.Loc.{Loc}
-use Rattle.ir_core.specs.Module.{ModuleParts, FuncParts, empty_module}
+use Rattle.ir_core.specs.Module.{ModuleParts, empty_module}
 use Rattle.ir_core.specs.Tokens.{HasTokens}
 use Rattle.ir_core.specs.Lines.{IsDropped}
 use Rattle.ir_core.specs.Dropping.{is_dropped}
 use Rattle.ir_core.proofs.DroppedLines.{is_dropped-Decides}
 use Rattle.ir_core.proofs.TokenLaws.{same_tokens, same_column, not_both, Either_of, Has_tokens, Has_column, tokens_or_column}
-use Rattle.ir_grammar.specs.declared.trees.TopLine.{TopLine}
-use Rattle.ir_grammar.specs.declared.trees.BodyLine.{BodyLine}
 use Rattle.ir_grammar.specs.Tokens.{tokens_of}
-use Rattle.ir_grammar.specs.Fitting.{IsLine, IsUnfit, IsDecided, Verdict, Stands, Unfit}
+use Rattle.ir_grammar.specs.Fitting.{IsUnfit, IsDecided, Verdict, Stands, Unfit}
 use Rattle.ir_grammar.specs.Top.{top_line, body_line}
 use Rattle.ir_grammar.proofs.TopLaws.{top_line_law, body_line_law}
 use Rattle.ir_grammar.proofs.Lines.{decided}
 use Rattle.ir_numbering.specs.Numbers.{numbered_module}
 use Rattle.ir_parse_top.specs.Sheet.{Sheet, Outside, Inside, with_top, with_body, with_numerals}
-use Rattle.ir_parse_top.specs.Text.{Line, all_moved, is_unclosed, place_behind, pending_of, GoesOn, Says, HasText, Leads, Dropped, Blank, Said, Fault, BadByte, BadWord, word_at, CantStand, Stops, AtByte, AtWord, Run, is_inside, Trips, lines_placed, numerals_for, HasTree, Text}
-use Rattle.ir_parse_top.specs.Text as texts
+use Rattle.ir_parse_top.specs.Text.{Line, all_moved, is_unclosed, place_behind, pending_of, Says, HasText, Leads, Dropped, Blank, Said, Fault, BadByte, BadWord, word_at, CantStand, Stops, AtByte, AtWord, Run, is_inside, Trips, lines_placed, numerals_for, Text}
 use Rattle.ir_parse_top.specs.Laws as laws
 use Rattle.ir_parse_top.proofs.PassedLines.{cons_isnt_nil}
 
