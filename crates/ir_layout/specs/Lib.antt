@@ -1,0 +1,4 @@
+pub mod Shapes
+pub mod KeptShapes
+pub mod Followed
+pub mod NamedTypes
