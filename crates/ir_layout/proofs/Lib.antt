@@ -1,2 +1,4 @@
 pub mod Words
 pub mod StructShapes
+pub mod Definitions
+pub mod Fields

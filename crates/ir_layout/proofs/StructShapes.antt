@@ -25,7 +25,7 @@ add_kept None field = None
 add_kept (Some fields) None = None
 add_kept (Some fields) (Some field) = Some (kept_with_field fields field)
 
-kept-with_field : (fields field : Shape) → kept (with_field fields field) ≡ kept_with_field (kept fields) (kept field)
+pub kept-with_field : (fields field : Shape) → kept (with_field fields field) ≡ kept_with_field (kept fields) (kept field)
 kept-with_field fields field =
     let start : ℕ = field_start fields.size field.align in
     let size : word (start + field.size) ≡ word (word (round_up (bytes field.align) (word fields.size)) + word field.size) =

@@ -43,3 +43,6 @@ word-mul n m = let first = mul-mod_first m n (2 ^ 64) in let e : n * m ≡ m * n
 pub large-product : (count size : ℕ) → nat_lt size_limit (count * size) ≡ (nat_lt 0 count && (nat_lt size_limit size || nat_lt size_limit (count * word size)))
 large-product zero size = grind (arith, nat_tests)
 large-product (suc n) size = grind (arith, nat_tests)
+
+pub word-product : (a b : ℕ) → word (word a * word b) ≡ word (a * b)
+word-product a b = sym (word-mul (word a) b) ∙ mul-mod_first a b (2 ^ 64)

@@ -2,3 +2,4 @@ pub mod Shapes
 pub mod KeptShapes
 pub mod Followed
 pub mod NamedTypes
+pub mod Offsets

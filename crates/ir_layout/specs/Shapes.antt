@@ -3,7 +3,7 @@
 -- Choices: a shape is told of types as plain data, and named types are followed a bounded number of names deep, so that
 -- a struct that holds itself has no shape. Where a name is defined twice, the last definition counts; an accepted module
 -- has one. `void` takes no bytes. Sizes are whole numbers without a bound.
-use Rattle.std.specs.Prelude.{ℕ, zero, suc, ◌+◌, ◌-◌, ◌*◌, ◌/◌, List, Option, Some, None, max, nat_le, nat_eq, fold, find, reverse, if◌then◌else◌}
+use Rattle.std.specs.Prelude.{ℕ, zero, suc, ◌+◌, ◌-◌, ◌*◌, ◌/◌, List, Option, Some, None, max, nat_le, nat_eq, fold, find, reverse, unwrap_or, if◌then◌else◌}
 use Rattle.std.specs.Option.{option_map, option_and_then}
 use Rattle.ir_core.specs.declared.types.Ty.{Ty, fold-Ty}
 use Rattle.ir_core.specs.declared.types.Ty.TheOpen.{Ty-F}
@@ -119,10 +119,9 @@ named_shape types (suc rounds) id = option_and_then (body_shape (named_shape typ
 abbrev pub shape_of : List (TypeId × Ty) → Ty → Option Shape
 shape_of types ty = within depth_limit (shape_with (named_shape types depth_limit) ty)
 
--- how many bytes a type takes; none where it nests too deep
+-- the same, and nothing for a type without a shape; how many bytes a type takes
+abbrev pub known_shape : List (TypeId × Ty) → Ty → Shape
+known_shape types ty = unwrap_or (shape_of types ty) nothing
+
 abbrev pub size_of : List (TypeId × Ty) → Ty → ℕ
-size_of types ty = option_size (shape_of types ty)
-  where
-  option_size : Option Shape → ℕ
-  option_size None = 0
-  option_size (Some shape) = shape.size
+size_of types ty = (known_shape types ty).size

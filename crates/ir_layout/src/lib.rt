@@ -1,4 +1,5 @@
 //! x
 #![tactic(auto)]
 mod named_types;
+mod offsets;
 mod shapes;

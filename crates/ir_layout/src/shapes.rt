@@ -126,6 +126,13 @@ impl KeptShape {
         }
     }
 
+    /// Where a field of this shape stands behind others, modulo 2^64.
+    pub(crate) fn start_behind(self, fields: KeptShape) -> u64
+        ensures { result ≡ word (round_up (bytes self.align) fields.size) }
+    {
+        self.align.round_up(fields.size)
+    }
+
     /// The struct of its fields.
     pub(crate) fn into_struct(self) -> KeptShape
         requires { self.depth < 16 }
