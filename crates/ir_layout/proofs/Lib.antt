@@ -2,3 +2,4 @@ pub mod Words
 pub mod StructShapes
 pub mod Definitions
 pub mod Fields
+pub mod AllPass

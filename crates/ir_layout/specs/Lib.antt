@@ -3,3 +3,4 @@ pub mod KeptShapes
 pub mod Followed
 pub mod NamedTypes
 pub mod Offsets
+pub mod WrittenTypes

@@ -3,3 +3,4 @@
 mod named_types;
 mod offsets;
 mod shapes;
+mod written_types;
