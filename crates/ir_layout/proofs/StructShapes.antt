@@ -1,6 +1,6 @@
 -- The shape of a struct, as it is kept: fields are added one by one to what was kept of those before.
-use Rattle.std.proofs.Common.{◌≡◌, ℕ, zero, suc, ◌+◌, ◌-◌, ◌*◌, ◌<◌, ◌≤◌, List, [], ◌∷◌, map, drop, length, get_or, drop-cons, add-one, refl, sym, ap, subst, ◌∙◌, arith, true, false}
-use Rattle.std.specs.Prelude.{Bool, Option, Some, None, fold, nat_le, nat_lt, max}
+use Rattle.std.proofs.Common.{◌≡◌, ℕ, zero, suc, ◌+◌, ◌-◌, ◌<◌, ◌≤◌, List, [], ◌∷◌, map, drop, length, get_or, drop-cons, refl, sym, ap, subst, ◌∙◌, arith, true, false}
+use Rattle.std.specs.Prelude.{Bool, Option, Some, None, fold, nat_le, max}
 use Rattle.ir_core.specs.declared.types.Ty.{Ty}
 use Rattle.ir_core.specs.declared.types.Ty as opened
 use Rattle.ir_core.specs.declared.types.Ty.TheVariants as types
@@ -10,9 +10,8 @@ use Rattle.std.specs.Option.{option_map}
 use Rattle.std.proofs.Math.ListN.{drop_of_length-le}
 use Rattle.std.proofs.lemmas.Bool.Decides.{nat_tests}
 use Rattle.ir_layout.specs.declared.shapes.KeptShape.{KeptShape}
-use Rattle.ir_layout.specs.declared.shapes.Align.{Align}
 use Rattle.ir_layout.specs.Shapes.{Shape, bytes, round_up, field_start, nothing, within, shape_step, shape_with, with_field, struct_of, array_of, add_field, fields_of}
-use Rattle.ir_layout.specs.KeptShapes.{word, size_limit, kept, kept_with_field, kept_struct, kept_array}
+use Rattle.ir_layout.specs.KeptShapes.{word, kept, kept_with_field, kept_struct, kept_array}
 use Rattle.ir_layout.proofs.Words.{word-round_up, word-add, le-round_up, round_up-le, large-sum, large-round, word-mul, large-product}
 
 -- what is kept of a shape that nests at most so deep
@@ -29,7 +28,7 @@ pub kept-with_field : (fields field : Shape) → kept (with_field fields field) 
 kept-with_field fields field =
     let start : ℕ = field_start fields.size field.align in
     let size : word (start + field.size) ≡ word (word (round_up (bytes field.align) (word fields.size)) + word field.size) =
-        word-add start field.size ∙ ap (λ (n : ℕ). word (n + word field.size)) (word-round_up field.align fields.size) in
+    word-add start field.size ∙ ap (λ (n : ℕ). word (n + word field.size)) (word-round_up field.align fields.size) in
     let large = large-sum fields.size start field.size (le-round_up field.align fields.size) (round_up-le field.align fields.size) in
     cc
 
@@ -74,13 +73,14 @@ kept_within-add limit None field = refl
 kept_within-add limit (Some fields) None = sym (add_kept-none (kept_within limit (Some fields)))
 kept_within-add limit (Some fields) (Some field) = by_fields (nat_le fields.depth limit) refl (nat_le field.depth limit) refl
   where
-  whole : Shape
-  whole = with_field fields field
-  by_fields : (a : Bool) → nat_le fields.depth limit ≡ a → (b : Bool) → nat_le field.depth limit ≡ b → kept_within limit (Some (with_field fields field)) ≡ add_kept (kept_within limit (Some fields)) (kept_within limit (Some field))
-  by_fields false e b f = within-false limit (with_field fields field) (max-le_left fields.depth field.depth limit e) ∙ sym (ap (λ (x : Option KeptShape). add_kept x (kept_within limit (Some field))) (within-false limit fields e))
-  by_fields true e false f = within-false limit (with_field fields field) (max-le_right fields.depth field.depth limit f) ∙ sym (ap (λ (x : Option KeptShape). add_kept (kept_within limit (Some fields)) x) (within-false limit field f) ∙ add_kept-none (kept_within limit (Some fields)))
-  by_fields true e true f =
-      within-true limit (with_field fields field) (max-le fields.depth field.depth limit e f) ∙ ap (λ (x : KeptShape). Some x) (kept-with_field fields field) ∙ sym (ap (λ (x : Option KeptShape). add_kept x (kept_within limit (Some field))) (within-true limit fields e) ∙ ap (λ (x : Option KeptShape). add_kept (Some (kept fields)) x) (within-true limit field f))
+    whole : Shape
+    whole = with_field fields field
+
+    by_fields : (a : Bool) → nat_le fields.depth limit ≡ a → (b : Bool) → nat_le field.depth limit ≡ b → kept_within limit (Some (with_field fields field)) ≡ add_kept (kept_within limit (Some fields)) (kept_within limit (Some field))
+    by_fields false e b f = within-false limit (with_field fields field) (max-le_left fields.depth field.depth limit e) ∙ sym (ap (λ (x : Option KeptShape). add_kept x (kept_within limit (Some field))) (within-false limit fields e))
+    by_fields true e false f = within-false limit (with_field fields field) (max-le_right fields.depth field.depth limit f) ∙ sym (ap (λ (x : Option KeptShape). add_kept (kept_within limit (Some fields)) x) (within-false limit field f) ∙ add_kept-none (kept_within limit (Some fields)))
+    by_fields true e true f =
+        within-true limit (with_field fields field) (max-le fields.depth field.depth limit e f) ∙ ap (λ (x : KeptShape). Some x) (kept-with_field fields field) ∙ sym (ap (λ (x : Option KeptShape). add_kept x (kept_within limit (Some field))) (within-true limit fields e) ∙ ap (λ (x : Option KeptShape). add_kept (Some (kept fields)) x) (within-true limit field f))
 
 -- all fields
 kept_within-fold : (limit : ℕ) (fields : Option Shape) (parts : List (Option Shape)) → kept_within limit (fold add_field fields parts) ≡ fold add_kept (kept_within limit fields) (map (λ (p : Option Shape). kept_within limit p) parts)
@@ -92,17 +92,17 @@ kept_within-struct : (limit : ℕ) (fields : Option Shape) → kept_within (suc 
 kept_within-struct limit None = refl
 kept_within-struct limit (Some fields) = by_depth (nat_le fields.depth limit) refl
   where
-  by_depth : (a : Bool) → nat_le fields.depth limit ≡ a → kept_within (suc limit) (Some (struct_of fields)) ≡ option_map kept_struct (kept_within limit (Some fields))
-  by_depth false e = let deep : nat_le (suc fields.depth) (suc limit) ≡ false = grind (arith, nat_tests) in within-false (suc limit) (struct_of fields) deep ∙ sym (ap (λ (x : Option KeptShape). option_map kept_struct x) (within-false limit fields e))
-  by_depth true e = let deep : nat_le (suc fields.depth) (suc limit) ≡ true = grind (arith, nat_tests) in within-true (suc limit) (struct_of fields) deep ∙ ap (λ (x : KeptShape). Some x) (kept-struct fields) ∙ sym (ap (λ (x : Option KeptShape). option_map kept_struct x) (within-true limit fields e))
+    by_depth : (a : Bool) → nat_le fields.depth limit ≡ a → kept_within (suc limit) (Some (struct_of fields)) ≡ option_map kept_struct (kept_within limit (Some fields))
+    by_depth false e = let deep : nat_le (suc fields.depth) (suc limit) ≡ false = grind (arith, nat_tests) in within-false (suc limit) (struct_of fields) deep ∙ sym (ap (λ (x : Option KeptShape). option_map kept_struct x) (within-false limit fields e))
+    by_depth true e = let deep : nat_le (suc fields.depth) (suc limit) ≡ true = grind (arith, nat_tests) in within-true (suc limit) (struct_of fields) deep ∙ ap (λ (x : KeptShape). Some x) (kept-struct fields) ∙ sym (ap (λ (x : Option KeptShape). option_map kept_struct x) (within-true limit fields e))
 
 kept_within-array : (limit count : ℕ) (element : Option Shape) → kept_within (suc limit) (option_map (array_of count) element) ≡ option_map (kept_array count) (kept_within limit element)
 kept_within-array limit count None = refl
 kept_within-array limit count (Some element) = by_depth (nat_le element.depth limit) refl
   where
-  by_depth : (a : Bool) → nat_le element.depth limit ≡ a → kept_within (suc limit) (Some (array_of count element)) ≡ option_map (kept_array count) (kept_within limit (Some element))
-  by_depth false e = let deep : nat_le (suc element.depth) (suc limit) ≡ false = grind (arith, nat_tests) in within-false (suc limit) (array_of count element) deep ∙ sym (ap (λ (x : Option KeptShape). option_map (kept_array count) x) (within-false limit element e))
-  by_depth true e = let deep : nat_le (suc element.depth) (suc limit) ≡ true = grind (arith, nat_tests) in within-true (suc limit) (array_of count element) deep ∙ ap (λ (x : KeptShape). Some x) (kept-array count element) ∙ sym (ap (λ (x : Option KeptShape). option_map (kept_array count) x) (within-true limit element e))
+    by_depth : (a : Bool) → nat_le element.depth limit ≡ a → kept_within (suc limit) (Some (array_of count element)) ≡ option_map (kept_array count) (kept_within limit (Some element))
+    by_depth false e = let deep : nat_le (suc element.depth) (suc limit) ≡ false = grind (arith, nat_tests) in within-false (suc limit) (array_of count element) deep ∙ sym (ap (λ (x : Option KeptShape). option_map (kept_array count) x) (within-false limit element e))
+    by_depth true e = let deep : nat_le (suc element.depth) (suc limit) ≡ true = grind (arith, nat_tests) in within-true (suc limit) (array_of count element) deep ∙ ap (λ (x : KeptShape). Some x) (kept-array count element) ∙ sym (ap (λ (x : Option KeptShape). option_map (kept_array count) x) (within-true limit element e))
 
 -- nothing nests too deep
 kept_nothing : (limit : ℕ) → kept_within limit (Some nothing) ≡ Some (kept nothing)
@@ -153,7 +153,7 @@ struct_is named ty parts zero e some = absurd (omega arith)
 struct_is named ty parts (suc limit) e some =
     let less : limit ≡ suc limit - 1 = omega arith in
     let inner : kept_within (suc limit) (shape_with named (types.Struct parts)) ≡ option_map kept_struct (fold add_kept (Some (kept nothing)) (map (part_of named limit) parts)) =
-        ap (λ (x : Option Shape). kept_within (suc limit) x) (shape-struct named parts) ∙ kept_within-struct limit (fields_of (map (shape_with named) parts)) ∙ ap (λ (x : Option KeptShape). option_map kept_struct x) (kept_within-fold limit (Some nothing) (map (shape_with named) parts) ∙ ap (λ (x : Option KeptShape). fold add_kept x (map (λ (p : Option Shape). kept_within limit p) (map (shape_with named) parts))) (kept_nothing limit) ∙ ap (λ (x : List (Option KeptShape)). fold add_kept (Some (kept nothing)) x) (map-map (λ (p : Option Shape). kept_within limit p) (shape_with named) parts)) in
+    ap (λ (x : Option Shape). kept_within (suc limit) x) (shape-struct named parts) ∙ kept_within-struct limit (fields_of (map (shape_with named) parts)) ∙ ap (λ (x : Option KeptShape). option_map kept_struct x) (kept_within-fold limit (Some nothing) (map (shape_with named) parts) ∙ ap (λ (x : Option KeptShape). fold add_kept x (map (λ (p : Option Shape). kept_within limit p) (map (shape_with named) parts))) (kept_nothing limit) ∙ ap (λ (x : List (Option KeptShape)). fold add_kept (Some (kept nothing)) x) (map-map (λ (p : Option Shape). kept_within limit p) (shape_with named) parts)) in
     subst (λ (n : ℕ). kept_within (suc limit) (shape_with named ty) ≡ option_map kept_struct (fold add_kept (Some (kept nothing)) (map (part_of named n) parts))) less (ap (λ (t : Ty). kept_within (suc limit) (shape_with named t)) e ∙ inner)
 
 pub array_is : (named : ℕ → Option Shape) (ty : Ty) (count : ℕ) (element : Ty) (limit : ℕ) → ty ≡ types.Array count element → 0 < limit → kept_within limit (shape_with named ty) ≡ option_map (kept_array count) (part_of named (limit - 1) element)

@@ -1,9 +1,7 @@
 -- How a layout keeps a shape: the size modulo 2^64, and whether it is past the limit of sizes.
-use Rattle.std.specs.Prelude.{ℕ, suc, ◌+◌, ◌*◌, ◌%◌, ◌^◌, Bool, false, ◌||◌, ◌&&◌, not, List, Option, Some, None, max, min, nat_lt, nat_eq, fold}
-use Rattle.std.specs.Option.{option_map}
-use Rattle.ir_layout.specs.Shapes.{Shape, bytes, greater, round_up, nothing, with_field, struct_of, array_of}
+use Rattle.std.specs.Prelude.{ℕ, suc, ◌+◌, ◌*◌, ◌%◌, ◌^◌, ◌||◌, ◌&&◌, max, nat_lt}
+use Rattle.ir_layout.specs.Shapes.{Shape, bytes, greater, round_up}
 use Rattle.ir_layout.specs.declared.shapes.KeptShape.{KeptShape}
-use Rattle.ir_layout.specs.declared.shapes.Align.{Align}
 
 -- how many bytes a type may take
 abbrev pub size_limit : ℕ

@@ -4,3 +4,5 @@ pub mod Followed
 pub mod NamedTypes
 pub mod Offsets
 pub mod WrittenTypes
+pub mod Memory
+pub mod Limits

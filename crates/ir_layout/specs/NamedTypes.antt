@@ -1,5 +1,5 @@
 -- What is known of named types while names are followed deeper and deeper.
-use Rattle.std.specs.Prelude.{ℕ, ◌≡◌, List, Option, None, Some, slice_get, nat_eq}
+use Rattle.std.specs.Prelude.{ℕ, ◌≡◌, List, Option, slice_get, nat_eq}
 use Rattle.std.specs.Option.{option_map, option_and_then, option_flatten}
 use Rattle.std.specs.HashMap.{HashMap, get}
 use Rattle.std.specs.declared.hash.FoldHasher.{FoldHasher}
@@ -7,7 +7,7 @@ use Rattle.std.specs.declared.hash.BuildHasherDefault.{BuildHasherDefault}
 use Rattle.ir_core.specs.declared.types.Ty.{Ty}
 use Rattle.ir_core.specs.declared.types.TypeId.{TypeId}
 use Rattle.ir_layout.specs.declared.shapes.KeptShape.{KeptShape}
-use Rattle.ir_layout.specs.Shapes.{Shape, definition_of, named_shape}
+use Rattle.ir_layout.specs.Shapes.{definition_of, named_shape}
 use Rattle.ir_layout.specs.KeptShapes.{kept}
 
 -- a table from numbers to places in a list

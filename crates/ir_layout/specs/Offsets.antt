@@ -3,7 +3,7 @@
 -- Choices: an offset is one sum, reduced modulo 2^64 once. An index is read as signed, in two's complement. The first index
 -- counts whole types. A further one counts elements of an array, in range or not, or names a field by a constant `i32`;
 -- nothing else has an index. A type without a shape counts no bytes here.
-use Rattle.std.specs.Prelude.{◌≡◌, ℕ, zero, suc, ◌+◌, ◌-◌, ◌*◌, ◌^◌, Bool, true, false, List, [], ◌∷◌, Option, Some, None, map, take, slice_get, nat_lt, fold, if◌then◌else◌}
+use Rattle.std.specs.Prelude.{◌≡◌, ℕ, ◌+◌, ◌-◌, ◌*◌, ◌^◌, Bool, true, false, List, [], ◌∷◌, Option, Some, None, map, take, slice_get, nat_lt, fold, if◌then◌else◌}
 use Rattle.std.specs.Borrow.{Bor}
 use Rattle.std.specs.Option.{option_map, option_and_then}
 use Rattle.ir_core.specs.declared.types.Ty.{Ty}
@@ -12,7 +12,7 @@ use Rattle.ir_core.specs.declared.types.Ty.TheViews.{out-Ty}
 use Rattle.ir_core.specs.declared.types.TypeId.{TypeId}
 use Rattle.ir_core.specs.declared.types.Width.{Width}
 use Rattle.ir_core.specs.declared.types.Width.TheVariants.{W1, W8, W16, W32, W64}
-use Rattle.ir_layout.specs.Shapes.{Shape, nothing, with_field, field_start, definition_of, known_shape, size_of}
+use Rattle.ir_layout.specs.Shapes.{nothing, with_field, field_start, definition_of, known_shape, size_of}
 use Rattle.ir_layout.specs.KeptShapes.{word}
 
 -- ---- indices

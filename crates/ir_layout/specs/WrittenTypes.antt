@@ -1,7 +1,7 @@
 -- The types that the lines of a module write, in order, and whether the names in them are defined
 -- (LLVM Language Reference, 'Type System', 'Named Types').
-use Rattle.std.specs.Prelude.{ℕ, ◌≡◌, Bool, true, List, [], ◌∷◌, ◌++◌, map, nat_eq, Option, Some, None}
-use Rattle.std.specs.List.{flat_map, list_all, list_any, IsDistinct}
+use Rattle.std.specs.Prelude.{ℕ, Bool, true, not, ◌&&◌, List, [], ◌∷◌, ◌++◌, map, nat_eq, Option, Some, None}
+use Rattle.std.specs.List.{flat_map, list_all, list_any}
 use Rattle.ir_core.specs.declared.types.Ty.{Ty, fold-Ty}
 use Rattle.ir_core.specs.declared.types.Ty.TheOpen.{Ty-F}
 use Rattle.ir_core.specs.declared.types.Loc.{Loc}
@@ -90,27 +90,29 @@ types_in_func f = f.ret ∷ map (λ param. param.0) f.params ++ flat_map types_i
 abbrev pub types_in_module : ModuleParts → List Ty
 types_in_module m = map (λ named. named.1) m.types ++ flat_map types_in_global m.globals ++ flat_map types_in_declare m.declares ++ flat_map types_in_func m.funcs
 
--- ---- the names in a type
-
-abbrev pub names_step : Ty-F (List ℕ) → List ℕ
-names_step Ty-F.Void = []
-names_step (Ty-F.Int width) = []
-names_step Ty-F.Ptr = []
-names_step (Ty-F.Array count element) = element
-names_step (Ty-F.Struct parts) = flat_map (λ part. part) parts
-names_step (Ty-F.Named id) = id.0 ∷ []
-
-abbrev pub names_in : Ty → List ℕ
-names_in = fold-Ty (List ℕ) names_step
+-- ---- defined names
 
 abbrev pub is_defined : List (TypeId × Ty) → ℕ → Bool
 is_defined types id = list_any (λ named. nat_eq named.0.0 id) types
 
+-- one layer of a type, its parts' answers given
+abbrev pub defined_step : List (TypeId × Ty) → Ty-F Bool → Bool
+defined_step types Ty-F.Void = true
+defined_step types (Ty-F.Int width) = true
+defined_step types Ty-F.Ptr = true
+defined_step types (Ty-F.Array count element) = element
+defined_step types (Ty-F.Struct parts) = list_all (λ part. part) parts
+defined_step types (Ty-F.Named id) = is_defined types id.0
+
 -- each name in the type is defined
 abbrev pub are_defined : List (TypeId × Ty) → Ty → Bool
-are_defined types ty = list_all (is_defined types) (names_in ty)
+are_defined types = fold-Ty Bool (defined_step types)
+
+-- no name is defined again behind its definition
+abbrev pub are_distinct : List (TypeId × Ty) → Bool
+are_distinct [] = true
+are_distinct (named ∷ types) = not (is_defined types named.0.0) && are_distinct types
 
 -- each name of a type that the module writes is defined, and none is defined twice
-pub record TypesKnown (m : ModuleParts) : Type 0 where
-  pub defined : list_all (are_defined m.types) (types_in_module m) ≡ true
-  pub once : IsDistinct nat_eq (map (λ named. named.0.0) m.types)
+abbrev pub types_known : ModuleParts → Bool
+types_known m = are_distinct m.types && list_all (are_defined m.types) (types_in_module m)

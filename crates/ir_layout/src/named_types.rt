@@ -1,7 +1,7 @@
 //! The named types of a module, each found by its number, and their shapes.
 ghost use Rattle.std.specs.Prelude.{◌≡◌, ◌+◌, ◌≤◌, ◌<◌, map, IfOk, OnOk, IfSome};
 ghost use Rattle.std.specs.Option.{option_map, option_copied};
-ghost use Rattle.ir_layout.specs.Shapes.{shape_with, within, named_shape, body_shape, depth_limit, definition_of, shape_of, known_shape};
+ghost use Rattle.ir_layout.specs.Shapes.{shape_with, within, named_shape, body_shape, depth_limit, definition_of};
 ghost use Rattle.ir_layout.specs.KeptShapes.{kept};
 ghost use Rattle.ir_layout.specs.NamedTypes.{ArePlaced};
 
@@ -37,10 +37,7 @@ impl Model for NamedTypes {
 }
 
 // The place of each name's definition.
-fn places_of(
-    alloc: Global,
-    types: &[(TypeId, Ty)],
-) -> Result<HashMap<u32, usize>, AllocError>
+fn places_of(alloc: Global, types: &[(TypeId, Ty)]) -> Result<HashMap<u32, usize>, AllocError>
     ensures { IfOk result (λ places. ArePlaced types.now places) }
 {
     let mut places = HashMap::new(alloc);
@@ -50,9 +47,20 @@ fn places_of(
     Ok(places)
 }
 
+// A copy of the definitions.
+fn copy_of(alloc: Global, types: &[(TypeId, Ty)]) -> Result<Seq<(TypeId, Ty)>, AllocError>
+    ensures { IfOk result (λ copy. copy ≡ types.now) }
+{
+    let mut copy = Seq::new(alloc);
+    for named in types {
+        copy.push(named.copy(alloc)?)?;
+    }
+    Ok(copy)
+}
+
 impl NamedTypes {
     /// The named types, followed so far that every type that nests at most as deep as the limit has its shape.
-    pub(crate) fn new(alloc: Global, types: &Seq<(TypeId, Ty)>) -> Result<NamedTypes, AllocError>
+    pub(crate) fn new(alloc: Global, types: &[(TypeId, Ty)]) -> Result<NamedTypes, AllocError>
         ensures { IfOk result (λ named. (named.types ≡ types.now) × (named.rounds ≡ depth_limit)) }
     {
         let mut named = NamedTypes::unfollowed(alloc, types)?;
@@ -63,11 +71,11 @@ impl NamedTypes {
     }
 
     // The named types, none of them followed.
-    fn unfollowed(alloc: Global, types: &Seq<(TypeId, Ty)>) -> Result<NamedTypes, AllocError>
+    fn unfollowed(alloc: Global, types: &[(TypeId, Ty)]) -> Result<NamedTypes, AllocError>
         ensures { IfOk result (λ named. (named.types ≡ types.now) × (named.rounds ≡ 0)) }
     {
-        let places = places_of(alloc, types.items())?;
-        let types = types.copy(alloc)?;
+        let places = places_of(alloc, types)?;
+        let types = copy_of(alloc, types)?;
         Ok(NamedTypes {
             types,
             places,
@@ -92,7 +100,7 @@ impl NamedTypes {
     fn body_shapes(&self, alloc: Global) -> Result<Vec<Option<KeptShape>>, AllocError>
         ensures { IfOk result (λ shapes. shapes.items ≡ map
             (λ definition. option_map kept
-              (body_shape (named_shape self.now.types self.now.rounds) definition))
+            (body_shape (named_shape self.now.types self.now.rounds) definition))
             self.now.types) }
     {
         let mut shapes = Vec::with_capacity(alloc, self.types.items().len())?;
@@ -120,27 +128,8 @@ impl NamedTypes {
         Some(body)
     }
 
-    /// The shape of a type, or `None` where it nests too deep.
-    pub(crate) fn shape(&self, ty: &Ty) -> Option<KeptShape>
-        requires { self.now.rounds ≡ depth_limit }
-        ensures { result ≡ option_map kept (shape_of self.now.types ty.now) }
-    {
-        self.shape_within(ty, 16)
-    }
-
-    /// The shape of a type, and nothing where it nests too deep.
-    pub(crate) fn known_shape(&self, ty: &Ty) -> KeptShape
-        requires { self.now.rounds ≡ depth_limit }
-        ensures { result ≡ kept (known_shape self.now.types ty.now) }
-    {
-        match self.shape(ty) {
-            Some(shape) => shape,
-            None => KeptShape::nothing(),
-        }
-    }
-
     /// The shape of a type that nests at most as deep as the limit.
-    fn shape_within(&self, ty: &Ty, limit: u32) -> Option<KeptShape>
+    pub(crate) fn shape_within(&self, ty: &Ty, limit: u32) -> Option<KeptShape>
         requires { limit ≤ 16 }
         ensures shape { result ≡ option_map kept
             (within limit (shape_with (named_shape self.now.types self.now.rounds) ty.now)) }

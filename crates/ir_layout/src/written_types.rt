@@ -1,7 +1,7 @@
 //! The types that the lines of a module write, tested one by one (`specs/WrittenTypes.antt`).
-ghost use Rattle.std.specs.Prelude.{◌≡◌, ◌∷◌, ◌++◌, ◌↔◌, IsTrue, map, nat_eq};
-ghost use Rattle.std.specs.List.{flat_map, list_all, IsDistinct};
-ghost use Rattle.ir_layout.specs.WrittenTypes.{types_in_val, types_in_init, types_in_global, types_in_declare, types_in_arg, types_in_arm, types_in_index, types_in_option, types_in_inst, types_in_block, types_in_func, types_in_module, is_defined, are_defined, TypesKnown};
+ghost use Rattle.std.specs.Prelude.{◌≡◌, ◌∷◌, ◌++◌, map};
+ghost use Rattle.std.specs.List.{flat_map, list_all};
+ghost use Rattle.ir_layout.specs.WrittenTypes.{types_in_val, types_in_init, types_in_global, types_in_declare, types_in_arg, types_in_arm, types_in_index, types_in_option, types_in_inst, types_in_block, types_in_func, types_in_module, is_defined, are_defined, are_distinct, types_known};
 
 use ir_core::{Block, Declare, Func, GlobalVar, Init, Inst, Loc, Module, Ty, TypeId, Val, Width};
 
@@ -158,14 +158,23 @@ fn inst_passes<T: TypeTest>(inst: &Inst, test: &T) -> bool
         Inst::Cast { from, a, to, .. } => {
             test.passes(from) && test.passes(to) && val_passes(a, test)
         }
-        Inst::Gep { base, ptr, index, .. } => {
-            test.passes(base) && val_passes(ptr, test) && indices_pass(index.items(), test)
-        }
+        Inst::Gep {
+            base,
+            ptr,
+            index,
+            ..
+        } => { test.passes(base) && val_passes(ptr, test) && indices_pass(index.items(), test) }
         Inst::Alloca { ty, .. } | Inst::Extract { elem: ty, .. } => test.passes(ty),
         Inst::Load { ty, ptr, .. } => test.passes(ty) && val_passes(ptr, test),
         Inst::Store { ty, val, ptr, .. } => three_pass(ty, val, ptr, test),
         Inst::Rmw { ptr, ty, val, .. } => three_pass(ty, ptr, val, test),
-        Inst::CmpXchg { ptr, ty, old, new, .. } => four_pass(ty, ptr, old, new, test),
+        Inst::CmpXchg {
+            ptr,
+            ty,
+            old,
+            new,
+            ..
+        } => four_pass(ty, ptr, old, new, test),
         Inst::Call { ret, args, .. } => test.passes(ret) && args_pass(args.items(), test),
         Inst::Phi { ty, arms, .. } => test.passes(ty) && arms_pass(arms.items(), test),
         Inst::CondBr { cond, .. } => val_passes(cond, test),
@@ -218,4 +227,129 @@ fn func_passes<T: TypeTest>(f: &Func, test: &T) -> bool
     ensures { result ≡ list_all (T.passes test.now) (types_in_func f.now) }
 {
     test.passes(f.ret()) && params_pass(f.params(), test) && blocks_pass(f.blocks(), test)
+}
+
+// Whether the types of globals, of declares, of functions, of named types pass.
+#[tactic(auto, using(crate::proofs::AllPass::all_pass))]
+fn globals_pass<T: TypeTest>(globals: &[GlobalVar], test: &T) -> bool
+    ensures { result ≡ list_all (T.passes test.now) (flat_map types_in_global globals.now) }
+{
+    for global in globals {
+        if !global_passes(global, test) {
+            return false;
+        }
+    }
+    true
+}
+
+#[tactic(auto, using(crate::proofs::AllPass::all_pass))]
+fn declares_pass<T: TypeTest>(declares: &[Declare], test: &T) -> bool
+    ensures { result ≡ list_all (T.passes test.now) (flat_map types_in_declare declares.now) }
+{
+    for declare in declares {
+        if !declare_passes(declare, test) {
+            return false;
+        }
+    }
+    true
+}
+
+#[tactic(auto, using(crate::proofs::AllPass::all_pass))]
+fn funcs_pass<T: TypeTest>(funcs: &[Func], test: &T) -> bool
+    ensures { result ≡ list_all (T.passes test.now) (flat_map types_in_func funcs.now) }
+{
+    for f in funcs {
+        if !func_passes(f, test) {
+            return false;
+        }
+    }
+    true
+}
+
+fn bodies_pass<T: TypeTest>(types: &[(TypeId, Ty)], test: &T) -> bool
+    ensures { result ≡ list_all (T.passes test.now) (map (λ named. named.1) types.now) }
+{
+    for (_, body) in types {
+        if !test.passes(body) {
+            return false;
+        }
+    }
+    true
+}
+
+// Whether all types that the module writes pass.
+#[tactic(auto, using(crate::proofs::AllPass::all_pass))]
+fn module_passes<T: TypeTest>(m: &Module, test: &T) -> bool
+    ensures { result ≡ list_all (T.passes test.now) (types_in_module m.now) }
+{
+    bodies_pass(m.types(), test)
+        && globals_pass(m.globals(), test)
+        && declares_pass(m.declares(), test)
+        && funcs_pass(m.funcs(), test)
+}
+
+// Whether a name of a type is defined.
+fn is_defined(types: &[(TypeId, Ty)], id: TypeId) -> bool
+    ensures { result ≡ is_defined types.now id.0 }
+{
+    for (other, _) in types {
+        if other.0 == id.0 {
+            return true;
+        }
+    }
+    false
+}
+
+// Whether each name in a type is defined.
+#[tactic(auto, using(crate::proofs::AllPass::all_pass))]
+fn are_defined(types: &[(TypeId, Ty)], ty: &Ty) -> bool
+    ensures { result ≡ are_defined types.now ty.now }
+{
+    match ty {
+        Ty::Void | Ty::Int(_) | Ty::Ptr => true,
+        Ty::Array(_, element) => are_defined(types, element.get()),
+        Ty::Struct(parts) => {
+            for part in parts.items() {
+                if !are_defined(types, part) {
+                    return false;
+                }
+            }
+            true
+        }
+        Ty::Named(id) => is_defined(types, *id),
+    }
+}
+
+// The test whether each name in a type is defined.
+#[derive(Drop)]
+struct Defined<'a> {
+    types: &'a [(TypeId, Ty)],
+}
+
+impl TypeTest for Defined<'_> {
+    ghost passes = { λ defined ty. are_defined defined.types.now ty };
+
+    fn passes(&self, ty: &Ty) -> bool {
+        are_defined(self.types, ty)
+    }
+}
+
+// Whether no name is defined twice.
+fn is_distinct(types: &[(TypeId, Ty)]) -> bool
+    ensures { result ≡ are_distinct types.now }
+{
+    for (place, (id, _)) in types.iter().enumerate() {
+        if is_defined(&types[place + 1..], *id) {
+            return false;
+        }
+    }
+    true
+}
+
+/// Whether each name of a type that the module writes is defined, and none is defined twice. It takes no memory.
+pub fn types_known(m: &Module) -> bool
+    ensures { result ≡ types_known m.now }
+{
+    let test = Defined { types: m.types() };
+    is_distinct(m.types()) && module_passes(m, &test)
 }

@@ -5,4 +5,4 @@ use Rattle.ir_layout.specs.Offsets.{inner_offset, offset_of}
 use Rattle.ir_layout.proofs.offsets.offset.Given as goal
 
 abbrev pub invariant-loop-width : goal.invariant-loop-width
-invariant-loop-width l = option_map (λ further. word (l.total + further)) (inner_offset l.named.types l.at (drop l.width-index l.rest)) ≡ offset_of l.named.types l.base l.index
+invariant-loop-width l = option_map (λ further. word (l.total + further)) (inner_offset l.types l.at (drop l.width-index l.rest)) ≡ offset_of l.types l.base l.index

@@ -5,4 +5,4 @@ use Rattle.ir_layout.specs.KeptShapes.{kept}
 use Rattle.ir_layout.proofs.offsets.taken.Given as goal
 
 abbrev pub invariant-loop-part : goal.invariant-loop-part
-invariant-loop-part l = l.taken ≡ kept (fold with_field nothing (map (known_shape l.named.types) (take l.part-index l.parts)))
+invariant-loop-part l = l.taken ≡ kept (fold with_field nothing (map (known_shape l.types) (take l.part-index l.parts)))

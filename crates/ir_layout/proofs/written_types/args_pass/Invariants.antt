@@ -1,4 +1,4 @@
-use Rattle.std.proofs.Common.{◌≡◌, List, map, drop}
+use Rattle.std.proofs.Common.{◌≡◌, drop}
 use Rattle.std.specs.List.{flat_map, list_all}
 use Rattle.ir_layout.specs.WrittenTypes.{types_in_arg}
 use Rattle.ir_layout.proofs.written_types.args_pass.Given as goal

@@ -1,5 +1,5 @@
-use Rattle.std.proofs.Common.{◌≡◌, List, map, drop}
-use Rattle.std.specs.List.{flat_map, list_all}
+use Rattle.std.proofs.Common.{◌≡◌, drop}
+use Rattle.std.specs.List.{list_all}
 use Rattle.ir_layout.proofs.written_types.types_pass.Given as goal
 
 abbrev pub invariant-loop-ty : goal.invariant-loop-ty

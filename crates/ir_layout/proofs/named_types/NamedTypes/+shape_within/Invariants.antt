@@ -1,4 +1,4 @@
-use Rattle.std.proofs.Common.{◌≡◌, ℕ, ◌-◌, ◌≤◌, map, drop}
+use Rattle.std.proofs.Common.{◌≡◌, ◌-◌, ◌≤◌, map, drop}
 use Rattle.std.specs.Prelude.{fold, Some}
 use Rattle.ir_layout.specs.Shapes.{named_shape, nothing}
 use Rattle.ir_layout.specs.KeptShapes.{kept}
