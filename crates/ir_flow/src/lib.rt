@@ -1,0 +1,6 @@
+//! x
+#![tactic(auto)]
+mod control;
+mod edge_list;
+pub use control::{edges, loop_heads};
+pub use edge_list::Edges;
