@@ -1,2 +1,4 @@
 pub mod Edges
 pub mod Labels
+pub mod Paths
+pub mod Searches
