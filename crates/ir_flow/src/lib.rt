@@ -3,5 +3,6 @@
 mod control;
 mod edge_list;
 mod search;
+mod targets;
 pub use control::{edges, loop_heads};
 pub use edge_list::Edges;
