@@ -1,3 +1,4 @@
 pub mod Labelled
 pub mod Marks
 pub mod Walks
+pub mod Tables

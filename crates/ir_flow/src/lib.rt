@@ -1,8 +1,10 @@
 //! x
 #![tactic(auto)]
+mod assigned;
 mod control;
 mod edge_list;
 mod search;
 mod targets;
+pub use assigned::assigned_at;
 pub use control::{edges, loop_heads};
 pub use edge_list::Edges;
