@@ -2,3 +2,4 @@ pub mod Labelled
 pub mod Marks
 pub mod Walks
 pub mod Tables
+pub mod Decided
