@@ -2,3 +2,4 @@ pub mod Edges
 pub mod Labels
 pub mod Paths
 pub mod Searches
+pub mod Uses

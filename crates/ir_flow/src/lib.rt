@@ -5,6 +5,7 @@ mod control;
 mod edge_list;
 mod search;
 mod targets;
+mod uses;
 pub use assigned::assigned_at;
 pub use control::{edges, loop_heads};
 pub use edge_list::Edges;
