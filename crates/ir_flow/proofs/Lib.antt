@@ -3,3 +3,5 @@ pub mod Marks
 pub mod Walks
 pub mod Tables
 pub mod Decided
+pub mod UsePlaces
+pub mod Firsts

@@ -3,3 +3,4 @@ pub mod Labels
 pub mod Paths
 pub mod Searches
 pub mod Uses
+pub mod Faults

@@ -3,9 +3,11 @@
 mod assigned;
 mod control;
 mod edge_list;
+mod flow;
 mod search;
 mod targets;
 mod uses;
 pub use assigned::assigned_at;
 pub use control::{edges, loop_heads};
 pub use edge_list::Edges;
+pub use flow::FlowError;
