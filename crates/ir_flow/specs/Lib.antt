@@ -4,3 +4,4 @@ pub mod Paths
 pub mod Searches
 pub mod Uses
 pub mod Faults
+pub mod Phis

@@ -4,6 +4,7 @@ mod assigned;
 mod control;
 mod edge_list;
 mod flow;
+mod same;
 mod search;
 mod targets;
 mod uses;
