@@ -5,3 +5,4 @@ pub mod Tables
 pub mod Decided
 pub mod UsePlaces
 pub mod Firsts
+pub mod Arms

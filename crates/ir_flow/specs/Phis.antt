@@ -2,7 +2,12 @@
 --
 -- Choices: the labels of a phi are compared with the block's predecessors as sets, so that a block with two edges to another
 -- may be named once. Values are equal where they are written alike.
-use Rattle.std.specs.Prelude.{ℕ, ◌≡◌, ◌+◌, ◌<◌, List, [], ◌∷◌, ◌++◌, map, Option, Some, None, slice_get}
+use Rattle.std.specs.Prelude.{ℕ, ◌≡◌, ◌+◌, ◌<◌, true, List, [], ◌∷◌, ◌++◌, Option, Some, None, slice_get, nat_eq}
+use Rattle.std.specs.List.{list_any}
+use Rattle.std.specs.HashMap.{HashMap, get}
+use Rattle.std.specs.HashSet.{HashSet, contains}
+use Rattle.std.specs.declared.hash.FoldHasher.{FoldHasher}
+use Rattle.std.specs.declared.hash.BuildHasherDefault.{BuildHasherDefault}
 use Rattle.ir_core.specs.declared.types.Loc.{Loc}
 use Rattle.ir_core.specs.declared.values.Val.{Val}
 use Rattle.ir_core.specs.declared.instruction.Inst.{Inst}
@@ -68,3 +73,33 @@ abbrev pub IsFlowFault : FuncParts → FlowError → Type 0
 IsFlowFault f (PhiMismatch block inst) = FirstMismatch f (phis_of f) block inst
 IsFlowFault f (UseBeforeDef block inst reg) = AllFitting f (phis_of f) × FirstUnassigned f block inst reg
 IsFlowFault f NoMemory = Unit {0}
+
+-- ---- the same over a list of predecessors
+
+pub record FitsTo (blocks : List Block) (preds : List ℕ) (arms : List (Val × Loc)) : Type 0 where
+  pub known : (place : ℕ) (arm : Val × Loc) → slice_get arms place ≡ Some arm → (from : ℕ) × (number_of blocks arm.1 ≡ Some from) × (list_any (nat_eq from) preds ≡ true)
+  pub complete : (from : ℕ) → list_any (nat_eq from) preds ≡ true → HasArm blocks arms from
+  pub agree : (i j : ℕ) (a b : Val × Loc) → slice_get arms i ≡ Some a → slice_get arms j ≡ Some b → number_of blocks a.1 ≡ number_of blocks b.1 → a.0 ≡ b.0
+
+-- a table from the numbers of blocks to places of arms
+abbrev pub Places : Type 0
+Places = HashMap ℕ ℕ (BuildHasherDefault FoldHasher)
+
+-- one of the first arms: its block is a predecessor, and the table leads to an arm of that block with the same value
+pub record ArmKnown (blocks : List Block) (preds : List ℕ) (arms : List (Val × Loc)) (places : Places) (arm : Val × Loc) : Type 0 where
+  pub from : ℕ
+  pub of_block : number_of blocks arm.1 ≡ Some from
+  pub pred : list_any (nat_eq from) preds ≡ true
+  pub first : ℕ
+  pub head : Val × Loc
+  pub at : get nat_eq places from ≡ Some first
+  pub stands : slice_get arms first ≡ Some head
+  pub same : head.0 ≡ arm.0
+
+pub record ArmsKnown (blocks : List Block) (preds : List ℕ) (arms : List (Val × Loc)) (count : ℕ) (places : Places) : Type 0 where
+  pub known : (k : ℕ) (arm : Val × Loc) → k < count → slice_get arms k ≡ Some arm → ArmKnown blocks preds arms places arm
+  pub sound : (from first : ℕ) → get nat_eq places from ≡ Some first → (head : Val × Loc) × (slice_get arms first ≡ Some head) × (number_of blocks head.1 ≡ Some from)
+
+-- the set has exactly these
+abbrev pub IsSetOf : List ℕ → HashSet ℕ (BuildHasherDefault FoldHasher) → Type 0
+IsSetOf preds set = (q : ℕ) → contains nat_eq set q ≡ list_any (nat_eq q) preds

@@ -4,6 +4,7 @@ mod assigned;
 mod control;
 mod edge_list;
 mod flow;
+mod phis;
 mod same;
 mod search;
 mod targets;

@@ -1,0 +1,92 @@
+//! Phis and the blocks that lead to them.
+ghost use Rattle.std.specs.Prelude.{◌≡◌, length, MatchOption, MatchBool, IfOk, IsSome, None, nat_eq, true, ℕ};
+ghost use Rattle.std.specs.List.{list_any};
+ghost use Rattle.std.specs.HashMap.{get};
+ghost use Rattle.ir_flow.specs.Labels.{AreNumbers};
+ghost use Rattle.ir_flow.specs.Phis.{FitsTo, ArmsKnown, IsSetOf};
+
+use crate::same::same_val;
+use ir_core::{Block, Loc, Val};
+use std::alloc::{AllocError, Global};
+use std::collections::{HashMap, HashSet};
+
+/// The set of some blocks.
+pub(crate) fn set_of(alloc: Global, blocks: &[u32]) -> Result<HashSet<u32>, AllocError>
+    ensures { IfOk result (λ set. IsSetOf blocks.now set) }
+{
+    let mut set = HashSet::new(alloc);
+    for block in blocks {
+        set.insert(*block)?;
+    }
+    Ok(set)
+}
+
+// The first arm of each block, or `None` where an arm is of no predecessor or two of one block differ.
+fn first_arms(
+    alloc: Global,
+    blocks: &[Block],
+    numbers: &HashMap<u32, u32>,
+    preds: &[u32],
+    known: &HashSet<u32>,
+    arms: &[(Val, Loc)],
+) -> Result<Option<HashMap<u32, usize>>, AllocError>
+    requires numbers { AreNumbers blocks.now numbers.now }
+    requires known { IsSetOf preds.now known.now }
+    ensures { IfOk result (λ found. MatchOption found (FitsTo blocks.now preds.now arms.now → ⊥)
+        (λ places. ArmsKnown blocks.now preds.now arms.now (length arms.now) places)) }
+{
+    let mut places: HashMap<u32, usize> = HashMap::new(alloc);
+    for (place, (val, label)) in arms.iter().enumerate() {
+        let Some(from) = numbers.get(&label.0).copied() else {
+            return Ok(None);
+        };
+        if !known.contains(&from) {
+            return Ok(None);
+        }
+        match places.get(&from).copied() {
+            None => {
+                places.insert(from, place)?;
+            }
+            Some(first) => {
+                if !same_val(&arms[first].0, val) {
+                    return Ok(None);
+                }
+            }
+        }
+    }
+    Ok(Some(places))
+}
+
+// Whether each predecessor has an arm.
+fn all_named(preds: &[u32], places: &HashMap<u32, usize>) -> bool
+    ensures { MatchBool result
+        ((from : ℕ) → list_any (nat_eq from) preds.now ≡ true → IsSome (get nat_eq places.now from))
+        ((from : ℕ) × (list_any (nat_eq from) preds.now ≡ true) × (get nat_eq places.now from ≡ None)) }
+{
+    for from in preds {
+        if !places.contains_key(from) {
+            return false;
+        }
+    }
+    true
+}
+
+/// Whether the labels of a phi are a block's predecessors, and no label has two values.
+pub(crate) fn fits(
+    alloc: Global,
+    blocks: &[Block],
+    numbers: &HashMap<u32, u32>,
+    preds: &[u32],
+    known: &HashSet<u32>,
+    arms: &[(Val, Loc)],
+) -> Result<bool, AllocError>
+    requires numbers { AreNumbers blocks.now numbers.now }
+    requires known { IsSetOf preds.now known.now }
+    ensures { IfOk result (λ fits. MatchBool fits (FitsTo blocks.now preds.now arms.now)
+        (FitsTo blocks.now preds.now arms.now → ⊥)) }
+{
+    match first_arms(alloc, blocks, numbers, preds, known, arms)? {
+        None => Ok(false),
+        Some(places) => Ok(all_named(preds, &places)),
+    }
+}
