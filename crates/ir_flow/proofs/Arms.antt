@@ -1,6 +1,6 @@
 -- One arm of a phi after another.
 use Rattle.std.proofs.Common.{◌≡◌, ℕ, zero, suc, ◌+◌, ◌<◌, ◌≤◌, List, [], ◌∷◌, length, get_or, refl, sym, ap, subst, ◌∙◌, arith, true, false, inl, inr}
-use Rattle.std.specs.Prelude.{Bool, Option, None, Some, slice_get, nat_eq, ◌⊎◌}
+use Rattle.std.specs.Prelude.{Bool, MatchBool, IsSome, Option, None, Some, slice_get, nat_eq, ◌⊎◌}
 use Rattle.std.specs.List.{list_any}
 use Rattle.std.specs.HashMap.{get}
 use Rattle.std.proofs.lemmas.Bool.{cases_lt, eqb-true, eq-eqb}
@@ -60,3 +60,40 @@ arms-differ blocks preds arms i places arm head from first so_far inside at of_b
     let f : Some known.0 ≡ Some head = sym known.1 ∙ there in
     let g : known.0 ≡ head = cc in
     differ (fits.agree first i head arm there this (ap (λ (x : Val × Loc). number_of blocks x.1) (sym g) ∙ known.2 ∙ sym of_block))
+
+-- ---- all arms
+
+all-fit : (blocks : List Block) (preds : List ℕ) (arms : List (Val × Loc)) (places : Places) → ArmsKnown blocks preds arms (length arms) places → ((from : ℕ) → list_any (nat_eq from) preds ≡ true → IsSome (get nat_eq places from)) → FitsTo blocks preds arms
+all-fit blocks preds arms places known named = record {
+  known = λ place arm there. let this = of_arm place arm there in (this.from, this.of_block, this.pred);
+  complete = λ from pred. by_place from (get nat_eq places from) refl (named from pred);
+  agree = λ i j a b at_i at_j e. same a b (of_arm i a at_i) (of_arm j b at_j) e;
+}
+  where
+  of_arm : (place : ℕ) (arm : Val × Loc) → slice_get arms place ≡ Some arm → ArmKnown blocks preds arms places arm
+  of_arm place arm there = known.known place arm (slice_get_within arms place arm there) there
+  by_place : (from : ℕ) (found : Option ℕ) → get nat_eq places from ≡ found → IsSome (get nat_eq places from) → HasArm blocks arms from
+  by_place from None e some = let f = subst (λ (o : Option ℕ). IsSome o) e some in absurd cc
+  by_place from (Some first) e some = let head = known.sound from first e in record { place = first; arm = head.0; stands = head.1; of_block = head.2 }
+  same : (a b : Val × Loc) → ArmKnown blocks preds arms places a → ArmKnown blocks preds arms places b → number_of blocks a.1 ≡ number_of blocks b.1 → a.0 ≡ b.0
+  same a b x y e =
+      let f : Some x.from ≡ Some y.from = sym x.of_block ∙ e ∙ y.of_block in
+      let from : x.from ≡ y.from = cc in
+      let g : Some x.first ≡ Some y.first = sym x.at ∙ ap (λ (n : ℕ). get nat_eq places n) from ∙ y.at in
+      let first : x.first ≡ y.first = cc in
+      let h : Some x.head ≡ Some y.head = sym x.stands ∙ ap (slice_get arms) first ∙ y.stands in
+      let head : x.head ≡ y.head = cc in
+      sym x.same ∙ ap (λ (v : Val × Loc). v.0) head ∙ y.same
+
+one-lacks : (blocks : List Block) (preds : List ℕ) (arms : List (Val × Loc)) (places : Places) → ArmsKnown blocks preds arms (length arms) places → (from : ℕ) → list_any (nat_eq from) preds ≡ true → get nat_eq places from ≡ None → FitsTo blocks preds arms → ⊥
+one-lacks blocks preds arms places known from pred none fits =
+    let arm = fits.complete from pred in
+    let this = known.known arm.place arm.arm (slice_get_within arms arm.place arm.arm arm.stands) arm.stands in
+    let f : Some this.from ≡ Some from = sym this.of_block ∙ arm.of_block in
+    let same : this.from ≡ from = cc in
+    let g : Some this.first ≡ None = sym this.at ∙ ap (λ (n : ℕ). get nat_eq places n) same ∙ none in
+    cc
+
+pub fits-by : (blocks : List Block) (preds : List ℕ) (arms : List (Val × Loc)) (places : Places) (b : Bool) → ArmsKnown blocks preds arms (length arms) places → MatchBool b ((from : ℕ) → list_any (nat_eq from) preds ≡ true → IsSome (get nat_eq places from)) ((from : ℕ) × (list_any (nat_eq from) preds ≡ true) × (get nat_eq places from ≡ None)) → MatchBool b (FitsTo blocks preds arms) (FitsTo blocks preds arms → ⊥)
+fits-by blocks preds arms places true known named = all-fit blocks preds arms places known named
+fits-by blocks preds arms places false known lacks = one-lacks blocks preds arms places known lacks.0 lacks.1 lacks.2

@@ -2,7 +2,7 @@
 --
 -- Choices: the labels of a phi are compared with the block's predecessors as sets, so that a block with two edges to another
 -- may be named once. Values are equal where they are written alike.
-use Rattle.std.specs.Prelude.{ℕ, ◌≡◌, ◌+◌, ◌<◌, true, List, [], ◌∷◌, ◌++◌, Option, Some, None, slice_get, nat_eq}
+use Rattle.std.specs.Prelude.{ℕ, ◌≡◌, ◌+◌, ◌<◌, true, List, [], ◌∷◌, ◌++◌, Option, Some, None, slice_get, nat_eq, ◌⊎◌}
 use Rattle.std.specs.List.{list_any}
 use Rattle.std.specs.HashMap.{HashMap, get}
 use Rattle.std.specs.HashSet.{HashSet, contains}
@@ -55,17 +55,18 @@ phis_from n (block ∷ blocks) = phis_of_body n 0 block.insts ++ phis_from (n + 
 abbrev pub phis_of : FuncParts → List PhiAt
 phis_of f = phis_from 0 f.blocks
 
-abbrev pub AllFitting : FuncParts → List PhiAt → Type 0
-AllFitting f phis = (k : ℕ) (phi : PhiAt) → slice_get phis k ≡ Some phi → IsFitting f phi.block phi.arms
+abbrev pub Fits : FuncParts → PhiAt → Type 0
+Fits f phi = IsFitting f phi.block phi.arms
 
--- some phi doesn't fit, and each before it does
-pub record FirstMismatch (f : FuncParts) (phis : List PhiAt) (block inst : ℕ) : Type 0 where
-  pub place : ℕ
-  pub phi : PhiAt
-  pub stands : slice_get phis place ≡ Some phi
-  pub unfit : IsFitting f phi.block phi.arms → ⊥
-  pub before : (k : ℕ) (other : PhiAt) → k < place → slice_get phis k ≡ Some other → IsFitting f other.block other.arms
-  pub at : (phi.block ≡ block) × (phi.inst ≡ inst)
+-- all of the phis fit
+abbrev pub AllFitting : FuncParts → List PhiAt → Type 0
+AllFitting f [] = Unit {0}
+AllFitting f (phi ∷ phis) = Fits f phi × AllFitting f phis
+
+-- the first of the phis that doesn't fit stands at this place
+abbrev pub FirstMismatch : FuncParts → List PhiAt → ℕ → ℕ → Type 0
+FirstMismatch f [] block inst = ⊥
+FirstMismatch f (phi ∷ phis) block inst = ((Fits f phi → ⊥) × (phi.block ≡ block) × (phi.inst ≡ inst)) ⊎ (Fits f phi × FirstMismatch f phis block inst)
 
 -- ---- what a check answers
 
@@ -73,6 +74,17 @@ abbrev pub IsFlowFault : FuncParts → FlowError → Type 0
 IsFlowFault f (PhiMismatch block inst) = FirstMismatch f (phis_of f) block inst
 IsFlowFault f (UseBeforeDef block inst reg) = AllFitting f (phis_of f) × FirstUnassigned f block inst reg
 IsFlowFault f NoMemory = Unit {0}
+
+-- of the phis alone
+abbrev pub IsPhiFault : FuncParts → List PhiAt → FlowError → Type 0
+IsPhiFault f phis (PhiMismatch block inst) = FirstMismatch f phis block inst
+IsPhiFault f phis (UseBeforeDef block inst reg) = ⊥
+IsPhiFault f phis NoMemory = Unit {0}
+
+-- the list has exactly the blocks from which edges lead to the block
+pub record HasPreds (f : FuncParts) (block : ℕ) (preds : List ℕ) : Type 0 where
+  pub all : (from : ℕ) → IsEdge (edges_of f).pairs (from, block) → list_any (nat_eq from) preds ≡ true
+  pub only : (from : ℕ) → list_any (nat_eq from) preds ≡ true → IsEdge (edges_of f).pairs (from, block)
 
 -- ---- the same over a list of predecessors
 

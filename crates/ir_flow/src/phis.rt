@@ -1,12 +1,13 @@
 //! Phis and the blocks that lead to them.
-ghost use Rattle.std.specs.Prelude.{◌≡◌, length, MatchOption, MatchBool, IfOk, IsSome, None, nat_eq, true, ℕ};
+ghost use Rattle.std.specs.Prelude.{◌≡◌, length, MatchOption, MatchBool, IfOk, IfErr, OnOk, IsSome, None, nat_eq, true, ℕ};
 ghost use Rattle.std.specs.List.{list_any};
 ghost use Rattle.std.specs.HashMap.{get};
 ghost use Rattle.ir_flow.specs.Labels.{AreNumbers};
-ghost use Rattle.ir_flow.specs.Phis.{FitsTo, ArmsKnown, IsSetOf};
+ghost use Rattle.ir_flow.specs.Phis.{FitsTo, ArmsKnown, IsSetOf, HasPreds, AllFitting, IsPhiFault, phis_of_body, phis_of};
 
+use crate::FlowError;
 use crate::same::same_val;
-use ir_core::{Block, Loc, Val};
+use ir_core::{Block, Func, Inst, Loc, Val};
 use std::alloc::{AllocError, Global};
 use std::collections::{HashMap, HashSet};
 
@@ -89,4 +90,34 @@ pub(crate) fn fits(
         None => Ok(false),
         Some(places) => Ok(all_named(preds, &places)),
     }
+}
+
+/// Refuses the first phi of a block that doesn't fit the block's predecessors.
+pub(crate) fn check_body(
+    alloc: Global,
+    f: &Func,
+    numbers: &HashMap<u32, u32>,
+    preds: &[u32],
+    block: u32,
+    body: &[Inst],
+) -> Result<(), FlowError>
+    requires numbers { AreNumbers f.now.blocks numbers.now }
+    requires preds { HasPreds f.now block preds.now }
+    ensures ok { OnOk result (AllFitting f.now (phis_of_body block 0 body.now)) }
+    ensures fault { IfErr result (λ e. IsPhiFault f.now (phis_of_body block 0 body.now) e) }
+{
+    let known = set_of(alloc, preds)?;
+    let mut number: u32 = 0;
+    for inst in body {
+        if let Inst::Phi { arms, .. } = inst {
+            if !fits(alloc, f.blocks(), numbers, preds, &known, arms.items())? {
+                return Err(FlowError::PhiMismatch {
+                    block,
+                    inst: number,
+                });
+            }
+        }
+        number = number.checked_add(1).ok_or(AllocError)?;
+    }
+    Ok(())
 }
