@@ -6,3 +6,5 @@ pub mod Decided
 pub mod UsePlaces
 pub mod Firsts
 pub mod Arms
+pub mod PhiPlaces
+pub mod Preds

@@ -115,3 +115,7 @@ pub record ArmsKnown (blocks : List Block) (preds : List ℕ) (arms : List (Val 
 -- the set has exactly these
 abbrev pub IsSetOf : List ℕ → HashSet ℕ (BuildHasherDefault FoldHasher) → Type 0
 IsSetOf preds set = (q : ℕ) → contains nat_eq set q ≡ list_any (nat_eq q) preds
+
+-- an edge turned round
+abbrev pub turned : ℕ × ℕ → ℕ × ℕ
+turned edge = (edge.1, edge.0)

@@ -1,11 +1,16 @@
 //! Faults of flow.
-ghost use Rattle.std.specs.Prelude.{◌≡◌, length, OnOk, IfErr};
+ghost use Rattle.std.specs.Prelude.{◌≡◌, length, map, IfOk, OnOk, IfErr};
 ghost use Rattle.ir_flow.specs.Edges.{edges_of};
 ghost use Rattle.ir_flow.specs.Searches.{HasTargets};
 ghost use Rattle.ir_flow.specs.Uses.{AllAssigned};
 ghost use Rattle.ir_flow.specs.Faults.{IsUseFault};
+ghost use Rattle.ir_flow.specs.Phis.{AllFitting, IsPhiFault, IsFlowFault, phis_of, turned};
 
+use crate::Edges;
 use crate::assigned::is_assigned;
+use crate::control::{edges, numbers_of};
+use crate::phis::check_body;
+use crate::targets::targets_of;
 use crate::uses::uses_of;
 use ir_core::{Func, Loc};
 use std::alloc::{AllocError, Global};
@@ -32,6 +37,38 @@ impl From<AllocError> for FlowError {
     }
 }
 
+// The edges turned round.
+fn turned(alloc: Global, e: &Edges) -> Result<Vec<(u32, u32)>, AllocError>
+    ensures { IfOk result (λ pairs. pairs.items ≡ map turned e.now.pairs) }
+{
+    let mut pairs = Vec::with_capacity(alloc, e.pairs().len())?;
+    for (from, to) in e.pairs() {
+        pairs.push((*to, *from))?;
+    }
+    Ok(pairs)
+}
+
+// Refuses the first phi that doesn't fit.
+fn check_phis(alloc: Global, f: &Func, e: &Edges) -> Result<(), FlowError>
+    requires { e.now ≡ edges_of f.now }
+    ensures ok { OnOk result (AllFitting f.now (phis_of f.now)) }
+    ensures fault { IfErr result (λ e. IsPhiFault f.now (phis_of f.now) e) }
+{
+    let numbers = numbers_of(alloc, f.blocks())?;
+    let pairs = turned(alloc, e)?;
+    let preds = targets_of(alloc, e.blocks(), pairs.as_slice())?;
+    let mut block: u32 = 0;
+    for each in f.blocks() {
+        let list = &preds[block as usize];
+        let checked = check_body(alloc, f, &numbers, list.as_slice(), block, each.insts.items());
+        if let Err(error) = checked {
+            return Err(error);
+        }
+        block = block.checked_add(1).ok_or(AllocError)?;
+    }
+    Ok(())
+}
+
 // The first register that is read and not assigned.
 fn check_uses(alloc: Global, f: &Func, targets: &[Vec<u32>]) -> Result<(), FlowError>
     requires { HasTargets (edges_of f.now).pairs (length f.now.blocks) targets.now }
@@ -48,5 +85,18 @@ fn check_uses(alloc: Global, f: &Func, targets: &[Vec<u32>]) -> Result<(), FlowE
             });
         }
     }
+    Ok(())
+}
+
+/// Refuses the first phi that doesn't fit, else the first register that some path doesn't assign before it is read.
+pub fn flow_check(alloc: Global, f: &Func) -> Result<(), FlowError>
+    ensures phis { OnOk result (AllFitting f.now (phis_of f.now)) }
+    ensures uses { OnOk result (AllAssigned f.now) }
+    ensures fault { IfErr result (λ e. IsFlowFault f.now e) }
+{
+    let e = edges(alloc, f)?;
+    check_phis(alloc, f, &e)?;
+    let targets = targets_of(alloc, e.blocks(), e.pairs())?;
+    check_uses(alloc, f, targets.as_slice())?;
     Ok(())
 }

@@ -12,4 +12,4 @@ mod uses;
 pub use assigned::assigned_at;
 pub use control::{edges, loop_heads};
 pub use edge_list::Edges;
-pub use flow::FlowError;
+pub use flow::{FlowError, flow_check};

@@ -3,7 +3,7 @@ ghost use Rattle.std.specs.Prelude.{◌≡◌, length, MatchOption, MatchBool, I
 ghost use Rattle.std.specs.List.{list_any};
 ghost use Rattle.std.specs.HashMap.{get};
 ghost use Rattle.ir_flow.specs.Labels.{AreNumbers};
-ghost use Rattle.ir_flow.specs.Phis.{FitsTo, ArmsKnown, IsSetOf, HasPreds, AllFitting, IsPhiFault, phis_of_body, phis_of};
+ghost use Rattle.ir_flow.specs.Phis.{FitsTo, ArmsKnown, IsSetOf, HasPreds, AllFitting, IsPhiFault, FirstMismatch, phi_at, phis_of_body, phis_of};
 
 use crate::FlowError;
 use crate::same::same_val;
@@ -92,6 +92,32 @@ pub(crate) fn fits(
     }
 }
 
+// Whether an instruction is no phi or one that fits.
+fn inst_fits(
+    alloc: Global,
+    f: &Func,
+    numbers: &HashMap<u32, u32>,
+    preds: &[u32],
+    known: &HashSet<u32>,
+    block: u32,
+    number: u32,
+    inst: &Inst,
+) -> Result<bool, AllocError>
+    requires numbers { AreNumbers f.now.blocks numbers.now }
+    requires preds { HasPreds f.now block preds.now }
+    requires known { IsSetOf preds.now known.now }
+    ensures { IfOk result (λ fits. MatchBool fits (AllFitting f.now (phi_at block number inst.now))
+        (FirstMismatch f.now (phi_at block number inst.now) block number)) }
+{
+    match inst {
+        Inst::Phi { arms, .. } => {
+            let answer = fits(alloc, f.blocks(), numbers, preds, known, arms.items())?;
+            Ok(answer)
+        }
+        _ => Ok(true),
+    }
+}
+
 /// Refuses the first phi of a block that doesn't fit the block's predecessors.
 pub(crate) fn check_body(
     alloc: Global,
@@ -109,13 +135,11 @@ pub(crate) fn check_body(
     let known = set_of(alloc, preds)?;
     let mut number: u32 = 0;
     for inst in body {
-        if let Inst::Phi { arms, .. } = inst {
-            if !fits(alloc, f.blocks(), numbers, preds, &known, arms.items())? {
-                return Err(FlowError::PhiMismatch {
-                    block,
-                    inst: number,
-                });
-            }
+        if !inst_fits(alloc, f, numbers, preds, &known, block, number, inst)? {
+            return Err(FlowError::PhiMismatch {
+                block,
+                inst: number,
+            });
         }
         number = number.checked_add(1).ok_or(AllocError)?;
     }

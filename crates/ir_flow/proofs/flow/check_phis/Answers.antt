@@ -1,0 +1,42 @@
+use Rattle.std.proofs.Common.{◌≡◌, ◌<◌, ◌+◌, ◌++◌, ℕ, List, map, drop, length, sym, ap, subst, ◌∙◌, arith}
+use Rattle.ir_core.specs.declared.instruction.Block.{Block}
+use Rattle.ir_core.specs.declared.instruction.Inst.{Inst}
+use Rattle.ir_flow.specs.Edges.{edges_of, EdgeList}
+use Rattle.ir_flow.specs.Searches.{targets_of, targets_in}
+use Rattle.ir_flow.specs.Phis.{turned, PhiAt, AllFitting, FirstMismatch, IsPhiFault, phis_of, phis_of_body, phis_from}
+use Rattle.ir_flow.proofs.Walks.{targets-at}
+use Rattle.ir_flow.proofs.PhiPlaces.{all-append, first-left, first-right}
+use Rattle.ir_flow.proofs.Preds.{preds-are, next-block, fault-of}
+use Rattle.ir_flow.proofs.flow.check_phis.Goals as goal
+
+pub check_body-checked-requires-clause-preds : goal.check_body-checked-requires-clause-preds
+check_body-checked-requires-clause-preds c =
+    let f = c.args.f.now in
+    let pairs : c.as_slice.result.now ≡ map turned (edges_of f).pairs = c.as_slice.ensures.value ∙ c.in_ok-pairs.ensures ∙ ap (λ (e : EdgeList). map turned e.pairs) c.requires in
+    let blocks : c.blocks-3.result ≡ length f.blocks = c.blocks-3.ensures ∙ ap (λ (e : EdgeList). e.blocks) c.requires in
+    let here : c.loop-each.block < length f.blocks = subst (λ (n : ℕ). n < length f.blocks) (sym c.loop-each.invariant.place) (subst (λ (bs : List Block). c.loop-each.each-index < length bs) c.blocks-each-items.ensures c.loop-each-test.true) in
+    let small : c.loop-each.block < c.blocks-3.result = subst (λ (n : ℕ). c.loop-each.block < n) (sym blocks) here in
+    let inside : c.loop-each.block < length c.in_ok-preds.preds.items = subst (λ (n : ℕ). c.loop-each.block < n) (sym c.in_ok-preds.ensures.count) small in
+    let list : c.as_slice-in-loop-each.result.now ≡ targets_of c.as_slice.result.now c.loop-each.block = c.as_slice-in-loop-each.ensures.value ∙ sym (targets-at c.in_ok-preds.preds.items c.loop-each.block c.index-list.result.now inside c.index-list.ensures) ∙ c.in_ok-preds.ensures.each c.loop-each.block small in
+    preds-are f c.loop-each.block c.as_slice-in-loop-each.result.now (list ∙ ap (λ (ps : List (ℕ × ℕ)). targets_of ps c.loop-each.block) pairs)
+
+pub returns-in-Err-clause-fault : goal.returns-in-Err-clause-fault
+returns-in-Err-clause-fault c =
+    let f = c.args.f.now in
+    let rest = phis_from (c.loop-each.each-index + 1) (drop (c.loop-each.each-index + 1) c.blocks-each-items.result.now) in
+    let body : phis_of_body c.loop-each.block 0 c.items.result.now ≡ phis_of_body c.loop-each.each-index 0 c.each-item.result.insts = ap (λ (n : ℕ). phis_of_body n 0 c.items.result.now) c.loop-each.invariant.place ∙ ap (λ (is : List Inst). phis_of_body c.loop-each.each-index 0 is) c.items.ensures in
+    let whole : phis_from c.loop-each.each-index (drop c.loop-each.each-index c.blocks-each-items.result.now) ≡ phis_of_body c.loop-each.block 0 c.items.result.now ++ rest = next-block c.loop-each.each-index c.each-item.result c.blocks-each-items.result.now c.loop-each-test.true c.each-item.is ∙ ap (λ (phis : List PhiAt). phis ++ rest) (sym body) in
+    fault-of f (phis_of_body c.loop-each.block 0 c.items.result.now) (phis_of f) c.in-Err.error (λ b i h. c.loop-each.invariant.first b i (subst (λ (phis : List PhiAt). FirstMismatch f phis b i) (sym whole) (first-left f (phis_of_body c.loop-each.block 0 c.items.result.now) rest b i h))) c.in-Err.ensures.fault
+
+pub loop-each-preserved : goal.loop-each-preserved
+loop-each-preserved c =
+    let f = c.args.f.now in
+    let rest = phis_from (c.loop-each.each-index + 1) (drop (c.loop-each.each-index + 1) c.blocks-each-items.result.now) in
+    let body : phis_of_body c.loop-each.block 0 c.items.result.now ≡ phis_of_body c.loop-each.each-index 0 c.each-item.result.insts = ap (λ (n : ℕ). phis_of_body n 0 c.items.result.now) c.loop-each.invariant.place ∙ ap (λ (is : List Inst). phis_of_body c.loop-each.each-index 0 is) c.items.ensures in
+    let whole : phis_from c.loop-each.each-index (drop c.loop-each.each-index c.blocks-each-items.result.now) ≡ phis_of_body c.loop-each.block 0 c.items.result.now ++ rest = next-block c.loop-each.each-index c.each-item.result c.blocks-each-items.result.now c.loop-each-test.true c.each-item.is ∙ ap (λ (phis : List PhiAt). phis ++ rest) (sym body) in
+    let fit : AllFitting f (phis_of_body c.loop-each.block 0 c.items.result.now) = c.in_default.ensures.ok in
+    record {
+      place = grind (arith, c.in_ok-block.ensures.value, c.checked_add.ensures);
+      all = λ more. c.loop-each.invariant.all (subst (λ (phis : List PhiAt). AllFitting f phis) (sym whole) (all-append f (phis_of_body c.loop-each.block 0 c.items.result.now) rest fit more));
+      first = λ b i h. c.loop-each.invariant.first b i (subst (λ (phis : List PhiAt). FirstMismatch f phis b i) (sym whole) (first-right f (phis_of_body c.loop-each.block 0 c.items.result.now) rest b i fit h));
+    }
