@@ -1,6 +1,6 @@
 -- The first item of a list that lacks something.
-use Rattle.std.proofs.Common.{◌≡◌, ℕ, suc, ◌+◌, ◌<◌, ◌≤◌, List, length, get_or, refl, sym, ap, subst, ◌∙◌, arith, inl, inr}
-use Rattle.std.specs.Prelude.{Option, None, Some, slice_get, ◌⊎◌}
+use Rattle.std.proofs.Common.{◌≡◌, ℕ, ◌+◌, ◌<◌, ◌≤◌, List, length, sym, ap, subst, ◌∙◌, arith, inl, inr}
+use Rattle.std.specs.Prelude.{Some, slice_get, ◌⊎◌}
 use Rattle.std.proofs.lemmas.Bool.{cases_lt}
 use Rattle.std.proofs.lemmas.Option.{slice_get_within}
 
@@ -8,9 +8,9 @@ use Rattle.std.proofs.lemmas.Option.{slice_get_within}
 pub before-more : {A : Type 0} (P : A → Type 0) (xs : List A) (i : ℕ) (x : A) → slice_get xs i ≡ Some x → P x → ((k : ℕ) (y : A) → k < i → slice_get xs k ≡ Some y → P y) → (k : ℕ) (y : A) → k < i + 1 → slice_get xs k ≡ Some y → P y
 before-more {A} P xs i x at h before k y less there = by_place (cases_lt k i)
   where
-  by_place : (k < i) ⊎ (i ≤ k) → P y
-  by_place (inl smaller) = before k y smaller there
-  by_place (inr same) = let e : i ≡ k = omega arith in let f : Some x ≡ Some y = sym at ∙ ap (slice_get xs) e ∙ there in let g : x ≡ y = cc in subst P g h
+    by_place : (k < i) ⊎ (i ≤ k) → P y
+    by_place (inl smaller) = before k y smaller there
+    by_place (inr same) = let e : i ≡ k = omega arith in let f : Some x ≡ Some y = sym at ∙ ap (slice_get xs) e ∙ there in let g : x ≡ y = cc in subst P g h
 
 -- what holds of all before the end holds of all
 pub before-all : {A : Type 0} (P : A → Type 0) (xs : List A) (i : ℕ) → length xs ≤ i → ((k : ℕ) (y : A) → k < i → slice_get xs k ≡ Some y → P y) → (k : ℕ) (y : A) → slice_get xs k ≡ Some y → P y

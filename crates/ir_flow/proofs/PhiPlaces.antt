@@ -1,13 +1,11 @@
 -- Phis one after another, and predecessors as a list.
-use Rattle.std.proofs.Common.{◌≡◌, ℕ, suc, ◌+◌, ◌<◌, List, [], ◌∷◌, ◌++◌, drop, length, get_or, drop-cons, refl, sym, ap, subst, ◌∙◌, arith, true, false, inl, inr}
-use Rattle.std.specs.Prelude.{Bool, MatchBool, Option, None, Some, slice_get, nat_eq, ◌⊎◌}
+use Rattle.std.proofs.Common.{◌≡◌, ℕ, suc, ◌+◌, ◌<◌, List, [], ◌∷◌, ◌++◌, drop, length, get_or, drop-cons, refl, ap, arith, true, false, inl, inr}
+use Rattle.std.specs.Prelude.{Bool, MatchBool}
 use Rattle.ir_core.specs.declared.types.Loc.{Loc}
 use Rattle.ir_core.specs.declared.values.Val.{Val}
 use Rattle.ir_core.specs.declared.instruction.Inst.{Inst}
 use Rattle.ir_core.specs.Module.{FuncParts}
-use Rattle.ir_flow.specs.Edges.{edges_of}
-use Rattle.ir_flow.specs.Paths.{IsEdge}
-use Rattle.ir_flow.specs.Phis.{Fits, FitsTo, IsFitting, HasPreds, PhiAt, AllFitting, FirstMismatch, phi_at, phis_of_body}
+use Rattle.ir_flow.specs.Phis.{FitsTo, IsFitting, HasPreds, PhiAt, AllFitting, FirstMismatch, phi_at, phis_of_body}
 
 pub all-append : (f : FuncParts) (xs ys : List PhiAt) → AllFitting f xs → AllFitting f ys → AllFitting f (xs ++ ys)
 all-append f [] ys all rest = rest

@@ -3,16 +3,14 @@ use Rattle.std.proofs.Common.{◌≡◌, ℕ, zero, suc, ◌+◌, ◌<◌, List,
 use Rattle.std.specs.Prelude.{Bool, Option, None, Some, slice_get, nat_eq}
 use Rattle.std.specs.List.{list_any}
 use Rattle.std.specs.Option.{option_map}
-use Rattle.std.specs.declared.vec.Vec.{Vec}
-use Rattle.std.specs.declared.alloc.Global.{Global}
 use Rattle.std.proofs.lemmas.Option.{slice_get-map}
 use Rattle.std.proofs.lemmas.Bool.{eqb-true, eq-eqb}
 use Rattle.ir_core.specs.declared.instruction.Block.{Block}
 use Rattle.ir_core.specs.Module.{FuncParts}
 use Rattle.ir_flow.specs.Edges.{edges_of}
 use Rattle.ir_flow.specs.Paths.{IsEdge}
-use Rattle.ir_flow.specs.Searches.{Among, HasTargets, targets_of, targets_in}
-use Rattle.ir_flow.specs.Phis.{HasPreds, turned, PhiAt, AllFitting, FirstMismatch, IsPhiFault, phis_of_body, phis_from}
+use Rattle.ir_flow.specs.Searches.{Among, targets_of}
+use Rattle.ir_flow.specs.Phis.{HasPreds, turned, PhiAt, FirstMismatch, IsPhiFault, phis_of_body, phis_from}
 use Rattle.ir_flow.specs.declared.flow.FlowError.{FlowError}
 use Rattle.ir_flow.specs.declared.flow.FlowError.TheVariants.{PhiMismatch, UseBeforeDef, NoMemory}
 use Rattle.ir_flow.proofs.Tables.{edge-of, target-of}
@@ -21,18 +19,18 @@ any-among : (xs : List ℕ) (q : ℕ) → list_any (nat_eq q) xs ≡ true → Am
 any-among [] q e = absurd cc
 any-among (x ∷ xs) q e = by_test (nat_eq q x) refl (any-among xs q)
   where
-  by_test : (b : Bool) → nat_eq q x ≡ b → (list_any (nat_eq q) xs ≡ true → Among xs q) → Among (x ∷ xs) q
-  by_test true f rest = (0, ap (λ (n : ℕ). Some n) (sym (eqb-true q x f)))
-  by_test false f rest = let h : (false || list_any (nat_eq q) xs) ≡ true = sym (ap (λ (b : Bool). b || list_any (nat_eq q) xs) f) ∙ e in let there = rest h in (suc there.0, there.1)
+    by_test : (b : Bool) → nat_eq q x ≡ b → (list_any (nat_eq q) xs ≡ true → Among xs q) → Among (x ∷ xs) q
+    by_test true f rest = (0, ap (λ (n : ℕ). Some n) (sym (eqb-true q x f)))
+    by_test false f rest = let h : (false || list_any (nat_eq q) xs) ≡ true = sym (ap (λ (b : Bool). b || list_any (nat_eq q) xs) f) ∙ e in let there = rest h in (suc there.0, there.1)
 
 among-any : (xs : List ℕ) (q place : ℕ) → slice_get xs place ≡ Some q → list_any (nat_eq q) xs ≡ true
 among-any [] q place at = absurd cc
 among-any (x ∷ xs) q zero at = let same : x ≡ q = cc in ap (λ (b : Bool). b || list_any (nat_eq q) xs) (eq-eqb q x (sym same))
 among-any (x ∷ xs) q (suc place) at = ap (λ (b : Bool). nat_eq q x || b) (among-any xs q place at) ∙ or_true (nat_eq q x)
   where
-  or_true : (b : Bool) → (b || true) ≡ true
-  or_true true = refl
-  or_true false = refl
+    or_true : (b : Bool) → (b || true) ≡ true
+    or_true true = refl
+    or_true false = refl
 
 turn : (pairs : List (ℕ × ℕ)) (a b : ℕ) → let edge : ℕ × ℕ = (a, b) in let back : ℕ × ℕ = (b, a) in IsEdge pairs edge → IsEdge (map turned pairs) back
 turn pairs a b h = (h.0, slice_get-map turned pairs h.0 ∙ ap (λ (o : Option (ℕ × ℕ)). option_map turned o) h.1)
@@ -40,11 +38,12 @@ turn pairs a b h = (h.0, slice_get-map turned pairs h.0 ∙ ap (λ (o : Option (
 turn-back : (pairs : List (ℕ × ℕ)) (a b : ℕ) → let edge : ℕ × ℕ = (a, b) in let back : ℕ × ℕ = (b, a) in IsEdge (map turned pairs) back → IsEdge pairs edge
 turn-back pairs a b h = by_item (slice_get pairs h.0) refl (sym (slice_get-map turned pairs h.0) ∙ h.1)
   where
-  back : ℕ × ℕ
-  back = (b, a)
-  by_item : (o : Option (ℕ × ℕ)) → slice_get pairs h.0 ≡ o → option_map turned o ≡ Some back → let edge : ℕ × ℕ = (a, b) in IsEdge pairs edge
-  by_item None e f = absurd cc
-  by_item (Some item) e f = let g : turned item ≡ back = cc in let item_is : item ≡ turned back = ap turned g in (h.0, e ∙ ap (λ (p : ℕ × ℕ). Some p) item_is)
+    back : ℕ × ℕ
+    back = (b, a)
+
+    by_item : (o : Option (ℕ × ℕ)) → slice_get pairs h.0 ≡ o → option_map turned o ≡ Some back → let edge : ℕ × ℕ = (a, b) in IsEdge pairs edge
+    by_item None e f = absurd cc
+    by_item (Some item) e f = let g : turned item ≡ back = cc in let item_is : item ≡ turned back = ap turned g in (h.0, e ∙ ap (λ (p : ℕ × ℕ). Some p) item_is)
 
 pub preds-are : (f : FuncParts) (block : ℕ) (preds : List ℕ) → preds ≡ targets_of (map turned (edges_of f).pairs) block → HasPreds f block preds
 preds-are f block preds is = record {

@@ -1,6 +1,6 @@
 -- Registers are read in blocks that the function has.
-use Rattle.std.proofs.Common.{◌≡◌, ℕ, zero, suc, ◌+◌, ◌<◌, List, [], ◌∷◌, ◌++◌, length, refl, sym, ap, subst, ◌∙◌, arith, inl, inr}
-use Rattle.std.specs.Prelude.{Option, None, Some, slice_get, ◌⊎◌}
+use Rattle.std.proofs.Common.{◌≡◌, ℕ, zero, suc, ◌+◌, ◌<◌, List, [], ◌∷◌, ◌++◌, length, refl, subst, arith}
+use Rattle.std.specs.Prelude.{Option, None, Some, slice_get}
 use Rattle.std.specs.List.{flat_map}
 use Rattle.ir_core.specs.declared.types.Loc.{Loc}
 use Rattle.ir_core.specs.declared.values.Val.{Val}
@@ -8,7 +8,6 @@ use Rattle.ir_core.specs.declared.instruction.Inst.{Inst}
 use Rattle.ir_core.specs.declared.instruction.Block.{Block}
 use Rattle.ir_core.specs.Module.{FuncParts}
 use Rattle.ir_flow.specs.Edges.{number_of}
-use Rattle.ir_flow.specs.Paths.{body_of}
 use Rattle.ir_flow.specs.Uses.{uses_here, uses_at_end, uses_of_arm, uses_of_inst, uses_of_body, uses_from, uses_of, regs_in, arms_in, reg_in}
 use Rattle.ir_flow.specs.declared.uses.Use.{Use}
 use Rattle.ir_flow.proofs.Tables.{numbered-within}

@@ -2,7 +2,7 @@
 --
 -- Choices: the labels of a phi are compared with the block's predecessors as sets, so that a block with two edges to another
 -- may be named once. Values are equal where they are written alike.
-use Rattle.std.specs.Prelude.{ℕ, ◌≡◌, ◌+◌, ◌<◌, true, List, [], ◌∷◌, ◌++◌, Option, Some, None, slice_get, nat_eq, ◌⊎◌}
+use Rattle.std.specs.Prelude.{ℕ, ◌≡◌, ◌+◌, ◌<◌, true, List, [], ◌∷◌, ◌++◌, Some, slice_get, nat_eq, ◌⊎◌}
 use Rattle.std.specs.List.{list_any}
 use Rattle.std.specs.HashMap.{HashMap, get}
 use Rattle.std.specs.HashSet.{HashSet, contains}
@@ -16,7 +16,7 @@ use Rattle.ir_core.specs.declared.instruction.Block.{Block}
 use Rattle.ir_core.specs.Module.{FuncParts}
 use Rattle.ir_flow.specs.Edges.{number_of, edges_of}
 use Rattle.ir_flow.specs.Paths.{IsEdge}
-use Rattle.ir_flow.specs.Uses.{AllAssigned, FirstUnassigned}
+use Rattle.ir_flow.specs.Uses.{FirstUnassigned}
 use Rattle.ir_flow.specs.declared.flow.FlowError.{FlowError}
 use Rattle.ir_flow.specs.declared.flow.FlowError.TheVariants.{PhiMismatch, UseBeforeDef, NoMemory}
 

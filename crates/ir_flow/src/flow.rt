@@ -60,7 +60,14 @@ fn check_phis(alloc: Global, f: &Func, e: &Edges) -> Result<(), FlowError>
     let mut block: u32 = 0;
     for each in f.blocks() {
         let list = &preds[block as usize];
-        let checked = check_body(alloc, f, &numbers, list.as_slice(), block, each.insts.items());
+        let checked = check_body(
+            alloc,
+            f,
+            &numbers,
+            list.as_slice(),
+            block,
+            each.insts.items(),
+        );
         if let Err(error) = checked {
             return Err(error);
         }

@@ -66,7 +66,9 @@ fn same_indices(a: &[(Width, u64)], b: &[(Width, u64)]) -> bool
 fn same_gep(a: &ConstGep, b: &ConstGep) -> bool
     ensures { IsTrue result ↔ (a.now ≡ b.now) }
 {
-    a.sym.0 == b.sym.0 && same_ty(&a.base, &b.base) && same_indices(a.index.items(), b.index.items())
+    a.sym.0 == b.sym.0
+        && same_ty(&a.base, &b.base)
+        && same_indices(a.index.items(), b.index.items())
 }
 
 /// Whether two values are the same.

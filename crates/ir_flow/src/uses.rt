@@ -229,7 +229,14 @@ pub(crate) fn uses_of(alloc: Global, f: &Func) -> Result<Vec<Use>, AllocError>
     let mut uses = Vec::new(alloc);
     let mut block: u32 = 0;
     for each in f.blocks() {
-        add_body(alloc, f.blocks(), &numbers, block, each.insts.items(), &mut uses)?;
+        add_body(
+            alloc,
+            f.blocks(),
+            &numbers,
+            block,
+            each.insts.items(),
+            &mut uses,
+        )?;
         block = block.checked_add(1).ok_or(AllocError)?;
     }
     Ok(uses)

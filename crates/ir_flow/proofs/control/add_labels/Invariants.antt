@@ -1,4 +1,4 @@
-use Rattle.std.proofs.Common.{◌≡◌, ◌++◌, ◌∷◌, [], List, ℕ, map, take}
+use Rattle.std.proofs.Common.{◌≡◌, ◌++◌, List, ℕ, map, take}
 use Rattle.ir_core.specs.declared.types.Loc.{Loc}
 use Rattle.ir_flow.proofs.control.add_labels.Given as goal
 

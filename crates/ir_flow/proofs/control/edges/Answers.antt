@@ -1,4 +1,4 @@
-use Rattle.std.proofs.Common.{◌≡◌, ◌++◌, ◌+◌, List, ℕ, drop, sym, ap, subst, ◌∙◌, arith}
+use Rattle.std.proofs.Common.{◌≡◌, ◌++◌, ◌+◌, List, ℕ, drop, ap, subst, ◌∙◌, arith}
 use Rattle.ir_core.specs.declared.types.Loc.{Loc}
 use Rattle.ir_core.specs.declared.instruction.Block.{Block}
 use Rattle.std.specs.List.{filter_map}
@@ -12,9 +12,9 @@ loop-block-preserved c =
     let labels : c.as_slice.result.now ≡ last_labels c.block-item.result.insts = c.as_slice.ensures.value ∙ c.in_ok-labels.ensures in
     let known : AreNumbers c.args.f.now.blocks c.in_ok-numbers.numbers = subst (λ (blocks : List Block). AreNumbers blocks c.in_ok-numbers.numbers) c.blocks-2.ensures c.in_ok-numbers.ensures in
     let found : filter_map (found_edge c.in_ok-numbers.numbers c.loop-block.from) c.as_slice.result.now ≡ edges_of_block c.args.f.now.blocks c.loop-block.block-index c.block-item.result =
-        ap (λ (xs : List Loc). filter_map (found_edge c.in_ok-numbers.numbers c.loop-block.from) xs) labels
-        ∙ found-edges c.args.f.now.blocks c.in_ok-numbers.numbers c.loop-block.from (last_labels c.block-item.result.insts) known
-        ∙ ap (λ (n : ℕ). filter_map (edge_to c.args.f.now.blocks n) (last_labels c.block-item.result.insts)) c.loop-block.invariant.place in
+    ap (λ (xs : List Loc). filter_map (found_edge c.in_ok-numbers.numbers c.loop-block.from) xs) labels
+    ∙ found-edges c.args.f.now.blocks c.in_ok-numbers.numbers c.loop-block.from (last_labels c.block-item.result.insts) known
+    ∙ ap (λ (n : ℕ). filter_map (edge_to c.args.f.now.blocks n) (last_labels c.block-item.result.insts)) c.loop-block.invariant.place in
     let later = edges_from c.args.f.now.blocks (c.loop-block.block-index + 1) (drop (c.loop-block.block-index + 1) c.blocks-block-items.result.now) in
     record {
       place = grind (arith, c.in_ok-from.ensures.value, c.checked_add.ensures);

@@ -1,5 +1,5 @@
-use Rattle.std.proofs.Common.{◌≡◌, ◌∙◌, ap, ℕ, arith}
-use Rattle.std.specs.Prelude.{Option, Some, nat_eq}
+use Rattle.std.proofs.Common.{◌∙◌, ap, ℕ, arith}
+use Rattle.std.specs.Prelude.{Some, nat_eq}
 use Rattle.std.specs.HashMap.{get}
 use Rattle.ir_flow.proofs.Labelled.{numbers-more}
 use Rattle.ir_flow.proofs.control.numbers_of.Goals as goal

@@ -2,8 +2,8 @@ use Rattle.std.proofs.Common.{◌≡◌, ◌<◌, ◌+◌, ◌++◌, ℕ, List, 
 use Rattle.ir_core.specs.declared.instruction.Block.{Block}
 use Rattle.ir_core.specs.declared.instruction.Inst.{Inst}
 use Rattle.ir_flow.specs.Edges.{edges_of, EdgeList}
-use Rattle.ir_flow.specs.Searches.{targets_of, targets_in}
-use Rattle.ir_flow.specs.Phis.{turned, PhiAt, AllFitting, FirstMismatch, IsPhiFault, phis_of, phis_of_body, phis_from}
+use Rattle.ir_flow.specs.Searches.{targets_of}
+use Rattle.ir_flow.specs.Phis.{turned, PhiAt, AllFitting, FirstMismatch, phis_of, phis_of_body, phis_from}
 use Rattle.ir_flow.proofs.Walks.{targets-at}
 use Rattle.ir_flow.proofs.PhiPlaces.{all-append, first-left, first-right}
 use Rattle.ir_flow.proofs.Preds.{preds-are, next-block, fault-of}

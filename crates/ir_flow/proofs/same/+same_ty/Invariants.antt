@@ -1,4 +1,4 @@
-use Rattle.std.proofs.Common.{◌≡◌, ℕ, length, take}
+use Rattle.std.proofs.Common.{◌≡◌, take}
 use Rattle.ir_flow.proofs.same.+same_ty.Given as goal
 
 abbrev pub invariant-loop-place : goal.invariant-loop-place
