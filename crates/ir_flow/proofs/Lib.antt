@@ -8,3 +8,4 @@ pub mod Firsts
 pub mod Arms
 pub mod PhiPlaces
 pub mod Preds
+pub mod Guiding

@@ -5,3 +5,4 @@ pub mod Searches
 pub mod Uses
 pub mod Faults
 pub mod Phis
+pub mod Guides

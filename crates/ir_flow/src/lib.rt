@@ -9,6 +9,7 @@ mod assigned;
 mod control;
 mod edge_list;
 mod flow;
+mod guide;
 mod phis;
 mod same;
 mod search;
