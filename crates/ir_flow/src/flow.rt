@@ -7,10 +7,10 @@ ghost use Rattle.ir_flow.specs.Faults.{IsUseFault};
 ghost use Rattle.ir_flow.specs.Phis.{AllFitting, IsPhiFault, IsFlowFault, phis_of, turned};
 
 use crate::Edges;
-use crate::assigned::is_assigned;
 use crate::control::{edges, numbers_of};
 use crate::phis::check_body;
 use crate::targets::targets_of;
+use crate::told::{guide_of, is_settled};
 use crate::uses::uses_of;
 use ir_core::{Func, Loc};
 use std::alloc::{AllocError, Global};
@@ -48,15 +48,21 @@ fn turned(alloc: Global, e: &Edges) -> Result<Vec<(u32, u32)>, AllocError>
     Ok(pairs)
 }
 
+// Where the edges to each block come from.
+fn preds_of(alloc: Global, e: &Edges) -> Result<Vec<Vec<u32>>, AllocError>
+    ensures { IfOk result (λ preds. HasTargets (map turned e.now.pairs) e.now.blocks preds.items) }
+{
+    let pairs = turned(alloc, e)?;
+    targets_of(alloc, e.blocks(), pairs.as_slice())
+}
+
 // Refuses the first phi that doesn't fit.
-fn check_phis(alloc: Global, f: &Func, e: &Edges) -> Result<(), FlowError>
-    requires { e.now ≡ edges_of f.now }
+fn check_phis(alloc: Global, f: &Func, preds: &[Vec<u32>]) -> Result<(), FlowError>
+    requires { HasTargets (map turned (edges_of f.now).pairs) (length f.now.blocks) preds.now }
     ensures ok { OnOk result (AllFitting f.now (phis_of f.now)) }
     ensures fault { IfErr result (λ e. IsPhiFault f.now (phis_of f.now) e) }
 {
     let numbers = numbers_of(alloc, f.blocks())?;
-    let pairs = turned(alloc, e)?;
-    let preds = targets_of(alloc, e.blocks(), pairs.as_slice())?;
     let mut block: u32 = 0;
     for each in f.blocks() {
         let list = &preds[block as usize];
@@ -77,14 +83,21 @@ fn check_phis(alloc: Global, f: &Func, e: &Edges) -> Result<(), FlowError>
 }
 
 // The first register that is read and not assigned.
-fn check_uses(alloc: Global, f: &Func, targets: &[Vec<u32>]) -> Result<(), FlowError>
+fn check_uses(
+    alloc: Global,
+    f: &Func,
+    e: &Edges,
+    preds: &[Vec<u32>],
+    targets: &[Vec<u32>],
+) -> Result<(), FlowError>
     requires { HasTargets (edges_of f.now).pairs (length f.now.blocks) targets.now }
     ensures ok { OnOk result (AllAssigned f.now) }
     ensures fault { IfErr result (λ e. IsUseFault f.now e) }
 {
+    let guide = guide_of(alloc, f, targets, preds, e.pairs().len())?;
     let uses = uses_of(alloc, f)?;
     for u in &uses {
-        if !is_assigned(alloc, f, targets, u.at_block, u.at_inst, u.reg)? {
+        if !is_settled(alloc, f, targets, &guide, *u)? {
             return Err(FlowError::UseBeforeDef {
                 block: u.block,
                 inst: u.inst,
@@ -102,8 +115,9 @@ pub fn flow_check(alloc: Global, f: &Func) -> Result<(), FlowError>
     ensures fault { IfErr result (λ e. IsFlowFault f.now e) }
 {
     let e = edges(alloc, f)?;
-    check_phis(alloc, f, &e)?;
+    let preds = preds_of(alloc, &e)?;
+    check_phis(alloc, f, preds.as_slice())?;
     let targets = targets_of(alloc, e.blocks(), e.pairs())?;
-    check_uses(alloc, f, targets.as_slice())?;
+    check_uses(alloc, f, &e, preds.as_slice(), targets.as_slice())?;
     Ok(())
 }

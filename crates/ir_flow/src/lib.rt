@@ -14,6 +14,7 @@ mod phis;
 mod same;
 mod search;
 mod targets;
+mod told;
 mod uses;
 
 pub use assigned::assigned_at;

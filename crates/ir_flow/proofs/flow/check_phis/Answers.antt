@@ -1,7 +1,7 @@
 use Rattle.std.proofs.Common.{◌≡◌, ◌<◌, ◌+◌, ◌++◌, ℕ, List, map, drop, length, sym, ap, subst, ◌∙◌, arith}
 use Rattle.ir_core.specs.declared.instruction.Block.{Block}
 use Rattle.ir_core.specs.declared.instruction.Inst.{Inst}
-use Rattle.ir_flow.specs.Edges.{edges_of, EdgeList}
+use Rattle.ir_flow.specs.Edges.{edges_of}
 use Rattle.ir_flow.specs.Searches.{targets_of}
 use Rattle.ir_flow.specs.Phis.{turned, PhiAt, AllFitting, FirstMismatch, phis_of, phis_of_body, phis_from}
 use Rattle.ir_flow.proofs.Walks.{targets-at}
@@ -12,13 +12,10 @@ use Rattle.ir_flow.proofs.flow.check_phis.Goals as goal
 pub check_body-checked-requires-clause-preds : goal.check_body-checked-requires-clause-preds
 check_body-checked-requires-clause-preds c =
     let f = c.args.f.now in
-    let pairs : c.as_slice.result.now ≡ map turned (edges_of f).pairs = c.as_slice.ensures.value ∙ c.in_ok-pairs.ensures ∙ ap (λ (e : EdgeList). map turned e.pairs) c.requires in
-    let blocks : c.blocks-3.result ≡ length f.blocks = c.blocks-3.ensures ∙ ap (λ (e : EdgeList). e.blocks) c.requires in
     let here : c.loop-each.block < length f.blocks = subst (λ (n : ℕ). n < length f.blocks) (sym c.loop-each.invariant.place) (subst (λ (bs : List Block). c.loop-each.each-index < length bs) c.blocks-each-items.ensures c.loop-each-test.true) in
-    let small : c.loop-each.block < c.blocks-3.result = subst (λ (n : ℕ). c.loop-each.block < n) (sym blocks) here in
-    let inside : c.loop-each.block < length c.in_ok-preds.preds.items = subst (λ (n : ℕ). c.loop-each.block < n) (sym c.in_ok-preds.ensures.count) small in
-    let list : c.as_slice-in-loop-each.result.now ≡ targets_of c.as_slice.result.now c.loop-each.block = c.as_slice-in-loop-each.ensures.value ∙ sym (targets-at c.in_ok-preds.preds.items c.loop-each.block c.index-list.result.now inside c.index-list.ensures) ∙ c.in_ok-preds.ensures.each c.loop-each.block small in
-    preds-are f c.loop-each.block c.as_slice-in-loop-each.result.now (list ∙ ap (λ (ps : List (ℕ × ℕ)). targets_of ps c.loop-each.block) pairs)
+    let inside : c.loop-each.block < length c.args.preds.now = subst (λ (n : ℕ). c.loop-each.block < n) (sym c.requires.count) here in
+    let list : c.as_slice.result.now ≡ targets_of (map turned (edges_of f).pairs) c.loop-each.block = c.as_slice.ensures.value ∙ sym (targets-at c.args.preds.now c.loop-each.block c.index-preds-block.result inside c.index-preds-block.is) ∙ c.requires.each c.loop-each.block here in
+    preds-are f c.loop-each.block c.as_slice.result.now list
 
 pub returns-in-Err-clause-fault : goal.returns-in-Err-clause-fault
 returns-in-Err-clause-fault c =
