@@ -74,3 +74,7 @@ status_of-refused first second (RefusedWork line) refusal w x = refl
 pub refused-done : (status : Status) (work : Work) (rose part : Type 0) (whole : Type 0) → ((status ≡ status_of work) × whole) ⊎ ((status ≡ WriteFault) × rose × part) → status_of work ≡ Refused → (rose → ⊥) → (status ≡ Refused) ⊎ (status ≡ NoMemory)
 refused-done status work rose part whole (inl w) e n = inl (w.0 ∙ e)
 refused-done status work rose part whole (inr w) e n = absurd (n w.1)
+
+pub report-done : (status : Status) (work : Work) (rose part : Type 0) (whole : Type 0) → ((status ≡ status_of work) × whole) ⊎ ((status ≡ WriteFault) × rose × part) → status_of work ≡ Done → (rose → ⊥) → (status ≡ Done) ⊎ (status ≡ NoMemory)
+report-done status work rose part whole (inl w) e n = inl (w.0 ∙ e)
+report-done status work rose part whole (inr w) e n = absurd (n w.1)

@@ -1,6 +1,6 @@
 use Rattle.std.proofs.Common.{Some}
 use Rattle.haft_cli.specs.Work.{IsWork}
-use Rattle.haft_cli.proofs.Finishes.{Writes-done, status_of-refused, refused-done}
+use Rattle.haft_cli.proofs.Finishes.{Writes-done, status_of-refused, refused-done, report-done}
 use Rattle.haft_cli.proofs.top.haft.Goals as goal
 
 pub returns-in-Ok-clause-exact : goal.returns-in-Ok-clause-exact
@@ -19,3 +19,7 @@ pub returns-in-Ok-clause-refuses : goal.returns-in-Ok-clause-refuses
 returns-in-Ok-clause-refuses g c = λ first second refusal words told_first told_second refused calm_first calm_second calm.
     let told : IsWork (Some first) (Some second) c.in-Ok.work = rw (told_first, told_second) at c.in-Ok.ensures.work in
     refused-done c.finish.result c.in-Ok.work _ _ _ c.finish.ensures.cases (status_of-refused first second c.in-Ok.work refusal told refused) calm
+
+pub returns-in-Ok-clause-complete : goal.returns-in-Ok-clause-complete
+returns-in-Ok-clause-complete g c = λ first second m s words told_first told_second first_within second_within runs calm_first calm_second calm.
+    report-done c.finish.result c.in-Ok.work _ _ _ c.finish.ensures.cases (c.in-Ok.ensures.run first second m s told_first told_second first_within second_within runs).done calm
