@@ -6,25 +6,25 @@ use Rattle.haft_cli.specs.declared.work.Work.{Work}
 use Rattle.haft_cli.specs.declared.work.Work.TheVariants.{Report, Refused}
 use Rattle.haft_cli.specs.declared.top.Status.{Status}
 use Rattle.haft_cli.specs.declared.top.Status.TheVariants as statuses
-use Rattle.haft_cli.specs.Command.{IsReport, IsRefused, line_of, run_report}
+use Rattle.haft_cli.specs.Command.{IsReport, IsLine, result_on, run_report}
 use Rattle.ir_core.specs.Module.{ModuleParts}
-use Rattle.haft_run.specs.Turns.{run_on, turns_of_main}
-use Rattle.haft_run.specs.Meaning.{Means}
+use Rattle.sched_file.specs.Schedule.{ScheduleParts}
+use Rattle.haft_run.specs.Meaning.{IsGood, Means, Told}
 
 -- the work is that of these files
 abbrev pub IsWork : Option (List ℕ) → Option (List ℕ) → Work → Type 0
 IsWork first second (Report text) = IsReport first second text.items
-IsWork first second (Refused refusal) = IsRefused first second refusal
+IsWork first second (Refused line) = IsLine first second line.items
 
 -- what is written
 abbrev pub text_of : Work → List ℕ
 text_of (Report text) = text.items
-text_of (Refused refusal) = line_of refusal
+text_of (Refused line) = line.items
 
 -- a report, and no refusal
 abbrev pub IsReportWork : Work → Type 0
 IsReportWork (Report text) = Unit {0}
-IsReportWork (Refused refusal) = ⊥
+IsReportWork (Refused line) = ⊥
 
 -- nothing is left of either file
 abbrev pub IsRead : (Which → Option (List ℕ)) → (Which → Option (List ℕ)) → Type 0
@@ -33,10 +33,11 @@ IsRead old new = (which : Which) → new which ≡ emptied (old which)
 -- the status that a work ends with, once it is written
 abbrev pub status_of : Work → Status
 status_of (Report text) = statuses.Done
-status_of (Refused refusal) = statuses.Refused
+status_of (Refused line) = statuses.Refused
 
--- the work is the report of this run, which means what it says
-pub record IsRunOf (m : ModuleParts) (turns : ℕ) (work : Work) : Type 0 where
+-- the work is the report of this run, which tells of the source what it says
+pub record IsRunOf (m : ModuleParts) (s : ScheduleParts) (work : Work) : Type 0 where
   pub done : status_of work ≡ statuses.Done
-  pub text : text_of work ≡ run_report m turns
-  pub means : Means m (run_on m (turns_of_main turns))
+  pub text : text_of work ≡ run_report m s
+  pub told : Told m (result_on m s)
+  pub means : IsGood m → Means m (result_on m s)

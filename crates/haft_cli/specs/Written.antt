@@ -4,7 +4,7 @@ use Rattle.haft_io.specs.Device.{Puts, PutsPart}
 use Rattle.haft_cli.specs.declared.command.Refusal.{Refusal}
 use Rattle.haft_cli.specs.declared.top.Status.{Status}
 use Rattle.haft_cli.specs.declared.top.Status.TheVariants.{Usage, ReadFault, NoMemory}
-use Rattle.haft_cli.specs.Command.{IsRefused, IsReport, line_of}
+use Rattle.haft_cli.specs.Command.{IsRefused, IsReport, IsLine, line_of}
 
 -- the line of a refusal of these files was written
 pub record WritesRefusal (first second old new : Option (List ℕ)) : Type 0 where
@@ -17,12 +17,6 @@ pub record WritesReport (first second old new : Option (List ℕ)) : Type 0 wher
   pub text : List ℕ
   pub report : IsReport first second text
   pub written : Puts old text new
-
--- the line of a refusal of these files
-pub record IsLine (first second : Option (List ℕ)) (text : List ℕ) : Type 0 where
-  pub refusal : Refusal
-  pub refused : IsRefused first second refusal
-  pub line : text ≡ line_of refusal
 
 -- a proper front of what was to be written for these files was written
 pub record WritesPart (first second old new : Option (List ℕ)) : Type 0 where

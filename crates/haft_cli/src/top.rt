@@ -2,11 +2,9 @@
 ghost use Rattle.std.specs.Prelude.{◌≡◌, ◌⊎◌, ◌↔◌, List, ℕ, Bool, true, false, Some, None, map, string_bytes, length};
 ghost use Rattle.haft_io.specs.Device.{Rose, Puts, PutsPart, emptied};
 ghost use Rattle.ir_core.specs.Module.{ModuleParts};
-ghost use Rattle.small_text.specs.SmallText.{SmallText};
-ghost use Rattle.small_text.specs.SmallSchedule.{SmallSchedule};
-ghost use Rattle.haft_run.specs.Turns.{run_on, turns_of_main};
-ghost use Rattle.haft_run.specs.Meaning.{Means};
-ghost use Rattle.haft_cli.specs.Command.{is_run_line, IsWithin, IsRefused, run_report};
+ghost use Rattle.sched_file.specs.Schedule.{ScheduleParts};
+ghost use Rattle.haft_run.specs.Meaning.{IsGood, Means, Told};
+ghost use Rattle.haft_cli.specs.Command.{is_run_line, IsWithin, IsRefused, Runs, result_on, run_report};
 ghost use Rattle.haft_cli.specs.declared.command.Refusal.{Refusal};
 ghost use Rattle.haft_cli.specs.Written.{WritesReport, WritesRefusal, WritesPart, IsQuiet};
 ghost use Rattle.haft_cli.specs.Work.{IsRead, status_of, text_of};
@@ -41,7 +39,7 @@ fn finish<O: Sink>(out: &mut O, work: &Work) -> Status
 {
     let (text, status) = match work {
         Work::Report(text) => (text.as_slice(), Status::Done),
-        Work::Refused(refusal) => (refusal.line(), Status::Refused),
+        Work::Refused(line) => (line.as_slice(), Status::Refused),
     };
     match write_whole(out, text) {
         Ok(()) => status,
@@ -49,12 +47,12 @@ fn finish<O: Sink>(out: &mut O, work: &Work) -> Status
     }
 }
 
-/// Does what the words ask for. The one command is `run F S`: it reads the first file, which is a small
-/// text, and the second, which is a small schedule, hardens the program, runs it over the schedule and
-/// writes the report of the run.
+/// Does what the words ask for. The one command is `run F S`: it reads the first file, which is the text of a module,
+/// and the second, which is a schedule, hardens the program, runs it over the schedule and writes the report of the
+/// run.
 ///
-/// The order is: the words; the first file, read whole; the second; the form of the first; the form of the
-/// second; the run; the write. For want of memory nothing is written.
+/// The order is: the words; the first file, read whole; the second; the text of the module; whether it is built; the
+/// text of the schedule; whether it has an upset; the run; the write. For want of memory nothing is written.
 pub fn haft<I: Inputs, O: Sink>(
     alloc: Global,
     words: &[String],
@@ -86,22 +84,26 @@ pub fn haft<I: Inputs, O: Sink>(
         → ¬ Rose (O.faults out.old) (O.faults out.new)
         → (result ≡ Status.Refused) ⊎ (result ≡ Status.NoMemory) }
 
-    // For a small text and a small schedule the bytes written are exactly the report of the hardened run.
-    ensures exact { (first second : List ℕ) (m : ModuleParts) (turns : ℕ) → result ≡ Status.Done
+    // For a module that is built and a schedule without upsets the bytes written are exactly the report of the hardened run.
+    ensures exact { (first second : List ℕ) (m : ModuleParts) (s : ScheduleParts) → result ≡ Status.Done
         → I.left inputs.old Which.First ≡ Some first → I.left inputs.old Which.Second ≡ Some second
-        → SmallText first m → SmallSchedule second turns
-        → Puts (O.written out.old) (run_report m turns) (O.written out.new) }
+        → Runs first second m s
+        → Puts (O.written out.old) (run_report m s) (O.written out.new) }
 
-    // And that run stands for the source run whose turns it tells.
-    ensures meaning { (first second : List ℕ) (m : ModuleParts) (turns : ℕ) → result ≡ Status.Done
+    // That run stands for the source run whose turns it tells, or the source is undefined on them.
+    ensures told { (first second : List ℕ) (m : ModuleParts) (s : ScheduleParts) → result ≡ Status.Done
         → I.left inputs.old Which.First ≡ Some first → I.left inputs.old Which.Second ≡ Some second
-        → SmallText first m → SmallSchedule second turns
-        → Means m (run_on m (turns_of_main turns)) }
+        → Runs first second m s → Told m (result_on m s) }
+
+    // So it stands for a source run where the module is good.
+    ensures meaning { (first second : List ℕ) (m : ModuleParts) (s : ScheduleParts) → result ≡ Status.Done
+        → I.left inputs.old Which.First ≡ Some first → I.left inputs.old Which.Second ≡ Some second
+        → Runs first second m s → IsGood m → Means m (result_on m s) }
 
     // Where all is right, only want of memory stands in the way.
-    ensures complete { (first second : List ℕ) (m : ModuleParts) (turns : ℕ) → is_run_line (map string_bytes words.now) ≡ true
+    ensures complete { (first second : List ℕ) (m : ModuleParts) (s : ScheduleParts) → is_run_line (map string_bytes words.now) ≡ true
         → I.left inputs.old Which.First ≡ Some first → I.left inputs.old Which.Second ≡ Some second
-        → IsWithin first → IsWithin second → SmallText first m → SmallSchedule second turns
+        → IsWithin first → IsWithin second → Runs first second m s
         → ¬ Rose (I.faults inputs.old Which.First) (I.faults inputs.new Which.First)
         → ¬ Rose (I.faults inputs.old Which.Second) (I.faults inputs.new Which.Second)
         → ¬ Rose (O.faults out.old) (O.faults out.new)

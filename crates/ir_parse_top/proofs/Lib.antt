@@ -11,3 +11,6 @@ mod SwitchLines
 mod FunctionLines
 mod TreeLines
 mod Numerals
+mod TextLaws
+mod CountLaws
+mod NumeralLaws

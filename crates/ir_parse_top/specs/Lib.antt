@@ -1,3 +1,4 @@
 pub mod Sheet
 pub mod Text
 pub mod Reading
+pub mod Laws

@@ -9,10 +9,12 @@ mod bodies;
 mod cursor;
 mod errors;
 mod inside;
+mod laws;
 mod outside;
 mod passing;
 mod switches;
 mod whole;
 
 pub use errors::ParseError;
+pub use laws::{module_is_small, numerals_are_names, text_or_unfit};
 pub use whole::parse_module;

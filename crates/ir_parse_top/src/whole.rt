@@ -4,6 +4,7 @@ ghost use Rattle.ir_core.specs.Module.{empty_module};
 ghost use Rattle.ir_numbering.specs.Numbers.{numbered_module};
 ghost use Rattle.ir_parse_top.specs.Sheet.{Outside, with_top, numeral, with_numerals};
 ghost use Rattle.ir_parse_top.specs.Text.{Text, Unfit, numerals_for};
+ghost use Rattle.ir_parse_top.specs.Laws.{instruction_count};
 ghost use Rattle.ir_parse_top.specs.Text as texts;
 ghost use Rattle.ir_parse_top.specs.Reading.{Follows, FindsAll, TripsFrom, Told};
 ghost use Rattle.ir_parse_top.specs.declared.errors.ParseError.TheVariants.{Refused, BadByte};
@@ -138,7 +139,7 @@ fn read_module(alloc: Global, text: &[u8], tree: &mut Module) -> Result<Module, 
 ///
 /// Names are numbered from 0: those of types and the `@` names by first sight in the order types, globals, external
 /// functions, functions; registers and labels of a function by their first definitions (parameters, then block by block
-/// the label and the results), and then by first sight.
+/// the label and the results), and then by first sight. The module has at most 4,194,304 instructions.
 pub fn parse_module(alloc: Global, bytes: &[u8]) -> Result<Module, ParseError>
     requires { length bytes.now ≤ 4194304 }
     ensures module { IfOk result (Text bytes.now) }
@@ -146,6 +147,7 @@ pub fn parse_module(alloc: Global, bytes: &[u8]) -> Result<Module, ParseError>
         → IsErrOf result (Refused line word) → Unfit bytes.now line (texts.BadWord word) }
     ensures bad_byte { (line col : ℕ)
         → IsErrOf result (BadByte line col) → Unfit bytes.now line (texts.BadByte col) }
+    ensures small { IfOk result (λ m. instruction_count m ≤ 4194304) }
 {
     let mut tree = Module::new(alloc);
     let result = read_module(alloc, bytes, &mut tree);
