@@ -45,8 +45,13 @@ const MODULES: &[(&str, bool)] = &[
         false,
     ),
     (
-        "declare void @other(i64)\ndefine i32 @main() {\n  ret i32 0\n}\n",
+        "declare ptr @malloc(i64)\ndefine i32 @main() {\n  ret i32 0\n}\n",
         false,
+    ),
+    // A declare of no external is dropped.
+    (
+        "declare void @other(i64)\ndefine i32 @main() {\n  ret i32 0\n}\n",
+        true,
     ),
     (
         "define i32 @main() {\n  call void @haft_out(i64 1)\n  ret i32 0\n}\n",

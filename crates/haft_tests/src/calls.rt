@@ -12,10 +12,7 @@ const REPORTS: &[(&str, &str)] = &[
     ("turn 0 2\nturn 0 38\n", REPORT),
     ("turn 0 6", REPORT),
     ("", "aborts 0 0 0 0\nstop bound\nsrc\n"),
-    (
-        "turn 0 5\n",
-        "out 5\naborts 0 0 0 0\nstop bound\nsrc 0*3\n",
-    ),
+    ("turn 0 5\n", "out 5\naborts 0 0 0 0\nstop bound\nsrc 0*3\n"),
     // Threads that were never made take turns for nothing. The third form is one turn, of thread 2.
     ("turn 3 5\nturn 0 40\n", REPORT),
     ("round 3 40\n", REPORT),
@@ -43,11 +40,7 @@ const REFUSALS: &[(&str, &str, &str)] = &[
     (TWO_BLOCKS, TURNS, "refused unbuilt first\n"),
     (COUNT, TURNS, "refused unbuilt first\n"),
     (SUM, "turn 64 1\n", "refused schedule 1\n"),
-    (
-        SUM,
-        "turn 0 4194304\nturn 0 1\n",
-        "refused schedule 2\n",
-    ),
+    (SUM, "turn 0 4194304\nturn 0 1\n", "refused schedule 2\n"),
     (
         SUM,
         "turn 0 3\nupset 0 0 m.a 1\nturn 0 40\n",
@@ -64,11 +57,7 @@ const REFUSALS: &[(&str, &str, &str)] = &[
     (BAD_BYTE, "turn 64 1\n", "refused text 4 byte 27\n"),
     (TWO_BLOCKS, "turn 64 1\n", "refused unbuilt first\n"),
     (TWO_BLOCKS, "upset 0 0 m.a 1\n", "refused unbuilt first\n"),
-    (
-        SUM,
-        "upset 0 0 m.a 1\nturn 64 1\n",
-        "refused schedule 2\n",
-    ),
+    (SUM, "upset 0 0 m.a 1\nturn 64 1\n", "refused schedule 2\n"),
 ];
 
 #[test]

@@ -163,7 +163,9 @@ const FORMS: &[(&str, bool)] = &[
 
 /// The module of these lines, which may give numbers out.
 fn main_of(rt: &impl Abort, alloc: Global, lines: &str) -> Module {
-    let text = format!(in alloc; "declare void @haft_out(i64)\ndefine i32 @main() {{\n{lines}\n}}\n");
+    let text = format!(in alloc;
+        "declare void @haft_out(i64)\ndefine i32 @main() {{\n{lines}\n}}\n"
+    );
     let text = text.expect(rt, "no memory for a text");
     module_of(rt, alloc, &text)
 }
