@@ -1,5 +1,5 @@
 -- What was written where the call ended with Done.
-use Rattle.std.proofs.Common.{ℕ, ◌≡◌, ◌⊎◌, inl, inr, List, Option, Some, refl, arith, sym, ap, ◌∙◌, subst}
+use Rattle.std.proofs.Common.{ℕ, ◌≡◌, ◌⊎◌, inl, inr, List, Option, Some, Result, Ok, Err, IfOk, refl, arith, sym, ap, ◌∙◌, subst}
 use Rattle.haft_io.specs.Device.{Puts, PutsPart}
 use Rattle.ir_core.specs.Module.{ModuleParts}
 use Rattle.ir_parse_top.specs.Text.{BadWord, BadByte}
@@ -10,7 +10,9 @@ use Rattle.sched_file.specs.Events.{events_of}
 use Rattle.sched_file.proofs.Meanings.{same_meaning}
 use Rattle.sched_file.proofs.SoFar.{not_unfit}
 use Rattle.haft_run.specs.Built.{IsBuilt}
-use Rattle.haft_run.specs.Schedule.{IsUpsetFree}
+use Rattle.haft_run.specs.Schedule.{IsUpsetFree, machine_events}
+use Rattle.haft_run.specs.Turns.{run_on}
+use Rattle.haft_run.specs.Report.{report_of}
 use Rattle.haft_run.specs.Meaning.{IsGood, Means, Told}
 use Rattle.haft_cli.specs.declared.top.Status.{Status}
 use Rattle.haft_cli.specs.declared.top.Status.TheVariants.{Done, Refused, WriteFault, NoMemory}
@@ -38,6 +40,19 @@ Writes-done status work old new rose m s (inr w) done run = let clash : WriteFau
 -- the entries of a schedule are known by its text
 pub same_entries : (text : List ℕ) (s other : ScheduleParts) → IsSchedule text s.args s.lines → IsSchedule text other.args other.lines → s.lines ≡ other.lines
 same_entries text s other h k = (same_meaning _ s.args other.args s.lines other.lines h.means k.means).1
+
+-- so a run on the one is a run on the other
+same_run : (m : ModuleParts) (s other : ScheduleParts) (work : Work) → s.lines ≡ other.lines → IsRunOf m s work → IsRunOf m other work
+same_run m s other work e r = record {
+  done = r.done;
+  text = subst (λ (lines : List Entry). text_of work ≡ report_of (run_on m (machine_events (events_of lines)))) e r.text;
+  told = subst (λ (lines : List Entry). Told m (run_on m (machine_events (events_of lines)))) e r.told;
+  means = λ good. subst (λ (lines : List Entry). Means m (run_on m (machine_events (events_of lines)))) e (r.means good);
+}
+
+pub run_of_same : {E : Type 0} (m : ModuleParts) (s other : ScheduleParts) (result : Result Work E) → s.lines ≡ other.lines → IfOk result (IsRunOf m s) → IfOk result (IsRunOf m other)
+run_of_same m s other (Ok work) e r = same_run m s other work e r
+run_of_same m s other (Err error) e r = tt
 
 -- files that are to be refused have no report
 not_report : (first second text : List ℕ) (refusal : Refusal) → IsReport (Some first) (Some second) text → IsRefused (Some first) (Some second) refusal → ⊥

@@ -11,6 +11,6 @@ mod SwitchLines
 mod FunctionLines
 mod TreeLines
 mod Numerals
-mod TextLaws
+pub mod TextLaws
 mod CountLaws
 mod NumeralLaws

@@ -5,6 +5,7 @@ use Rattle.std.specs.Fmt.{decimal}
 use Rattle.std.proofs.lemmas.Bool.Decides.{nat_tests}
 use Rattle.std.proofs.lemmas.List.{append_assoc, length-append, length-replicate, take_at, take-append-le, drop_at, drop-append-le, drop-drop}
 use Rattle.std.proofs.lemmas.List.Folds.{list_all-append}
+use Rattle.std.proofs.lemmas.List.Sums.{prefix_len-le-length}
 use Rattle.std.proofs.lemmas.Fmt.{decimal_by_steps, length-decimal-le, decimal_nonempty}
 use Rattle.ir_core.specs.Tokens.{is_digit, begins_name, is_name_byte}
 use Rattle.ir_core.specs.TokenLengths.{name_len, name_from}
@@ -26,6 +27,7 @@ all_digits = decimal_by_steps (λ n ds. list_all is_digit ds ≡ true) one more
     more : (n : ℕ) (ds : List ℕ) → 10 ≤ n → list_all is_digit ds ≡ true → list_all is_digit (ds ++ (48 + n % 10) ∷ []) ≡ true
     more n ds h all = list_all-append is_digit ds ((48 + n % 10) ∷ []) ∙ both (list_all is_digit ds) _ all (one (n % 10) (omega arith))
 
+-- no name of the other form begins by a digit
 digit_begins : (b : ℕ) → is_digit b ≡ true → begins_name b ≡ false
 digit_begins b e = grind (arith, nat_tests)
 
@@ -113,14 +115,6 @@ same_run : (p : ℕ → Bool) (bytes rest : List ℕ) (c : ℕ) → p c ≡ fals
 same_run p [] rest c fails = rw fails refl
 same_run p (b ∷ bytes) rest c fails = ap (λ (n : ℕ). cond (p b) (1 + n) 0) (same_run p bytes rest c fails)
 
-run_within : (p : ℕ → Bool) (bytes : List ℕ) → prefix_len p bytes ≤ length bytes
-run_within p [] = omega arith
-run_within p (b ∷ bytes) = by (p b) (run_within p bytes)
-  where
-    by : (t : Bool) → prefix_len p bytes ≤ length bytes → cond t (1 + prefix_len p bytes) 0 ≤ suc (length bytes)
-    by true h = omega (arith, h)
-    by false h = omega arith
-
 same_name : (bytes rest : List ℕ) → name_len (bytes ++ 10 ∷ rest) ≡ name_len bytes
 same_name [] rest = refl
 same_name (b ∷ bytes) rest =
@@ -129,7 +123,7 @@ same_name (b ∷ bytes) rest =
 
 name_within : (bytes : List ℕ) → name_len bytes ≤ length bytes
 name_within [] = omega arith
-name_within (b ∷ bytes) = by (begins_name b) (run_within is_name_byte bytes) (run_within is_digit (b ∷ bytes))
+name_within (b ∷ bytes) = by (begins_name b) (prefix_len-le-length is_name_byte bytes) (prefix_len-le-length is_digit (b ∷ bytes))
   where
     by : (t : Bool) → prefix_len is_name_byte bytes ≤ length bytes → prefix_len is_digit (b ∷ bytes) ≤ suc (length bytes) → cond t (1 + prefix_len is_name_byte bytes) (prefix_len is_digit (b ∷ bytes)) ≤ suc (length bytes)
     by true h g = omega (arith, h)

@@ -1,12 +1,14 @@
-//! A benchmark of `ir_lex`: the program cuts each line of a file into tokens, or copies the file's bytes one
-//! by one, and prints how many tokens or bytes there were. Its words are the file's name and, for the copy,
-//! `copy`. `bench/lex.sh` compares the times of both.
+//! Benchmarks of the readers: the program cuts each line of a file into tokens, copies the file's bytes one by one, or
+//! reads the file as a module, and prints how many tokens, bytes or instructions there were. Its words are the file's name
+//! and, for the copy, `copy`, or for the module, `module`. `bench/lex.sh` and `bench/parse.sh` compare the times.
 #![tactic(auto)]
 
 ghost use Rattle.std.specs.Prelude.{◌≡◌, ◌≤◌, IfOk, length};
 
 use haft_io::{FileInputs, Which, read_whole};
+use ir_core::Func;
 use ir_lex::{LexError, lex_line, split_line};
+use ir_parse_top::parse_module;
 use std::alloc::{AllocError, Global};
 use std::rt::{Env, Files};
 use std::{env, io};
@@ -38,6 +40,28 @@ fn copied_count(alloc: Global, text: &[u8]) -> Result<usize, AllocError>
     Ok(copy.len())
 }
 
+/// How many instructions a function has.
+fn func_count(f: &Func) -> usize {
+    let mut count: usize = 0;
+    for block in f.blocks() {
+        count = count.saturating_add(block.insts.items().len());
+    }
+    count
+}
+
+/// How many instructions the module of a text has; nothing where it has none.
+fn module_count(alloc: Global, text: &[u8]) -> Option<usize>
+    requires { length text.now ≤ 4194304 }
+{
+    let m = parse_module(alloc, text).ok()?;
+    let mut count: usize = 0;
+    for f in m.funcs() {
+        count = count.saturating_add(func_count(f));
+    }
+    drop(m);
+    Some(count)
+}
+
 /// What the words ask for; nothing where a file can't be read, a line has a bad byte or memory runs out.
 fn count<'a, R: Files + AllocGlobal>(rt: &'a R, words: &'a [String]) -> Option<usize> {
     let name = words.first().map(|word| word.as_str());
@@ -45,6 +69,7 @@ fn count<'a, R: Files + AllocGlobal>(rt: &'a R, words: &'a [String]) -> Option<u
     let text = read_whole(rt.alloc(), &mut inputs, Which::First, LIMIT).ok()?;
     match words.get(1) {
         Some(word) if word.as_str() == "copy" => copied_count(rt.alloc(), &text).ok(),
+        Some(word) if word.as_str() == "module" => module_count(rt.alloc(), &text),
         _ => token_count(rt.alloc(), &text).ok(),
     }
 }

@@ -1,0 +1,22 @@
+//! The layout of a module: sizes of types, addresses of globals, offsets inside types, valid accesses.
+//!
+//! Definitions: shapes of types (`specs/Shapes.antt`), offsets (`Offsets.antt`), the types that lines write
+//! (`WrittenTypes.antt`), addresses and valid accesses (`Memory.antt`), limits (`Limits.antt`); how shapes are kept in numbers
+//! of 64 bits (`KeptShapes.antt`, `NamedTypes.antt`). Contracts see a `Layout` as the named types of its module and the places
+//! of its globals. The checker and memory stand on it.
+#![tactic(auto)]
+
+mod limits;
+mod memory;
+mod named_types;
+mod offsets;
+mod placing;
+mod shapes;
+mod spans;
+mod type_table;
+mod written_types;
+
+pub use limits::{LayoutError, LimitKind};
+pub use memory::Layout;
+pub use placing::layout;
+pub use written_types::types_known;

@@ -1,0 +1,87 @@
+//! What a layout answers.
+ghost use Rattle.std.specs.Prelude.{◌≡◌, None};
+ghost use Rattle.ir_layout.specs.Shapes.{size_of};
+ghost use Rattle.ir_layout.specs.Offsets.{offset_of};
+ghost use Rattle.ir_layout.specs.Memory.{address_of, is_valid, AreAddresses, AreApart};
+ghost use Rattle.ir_layout.specs.Limits.{limit_of};
+
+use crate::limits::LimitKind;
+use crate::offsets;
+use crate::spans::{self, Span};
+use crate::type_table::TypeTable;
+use ir_core::{Sym, Ty, Width};
+use std::collections::HashMap;
+use std::marker::Model;
+
+/// Sizes, offsets and addresses of a module. Contracts see its named types and where its globals stand.
+#[derive(Drop)]
+pub struct Layout {
+    types: TypeTable,
+    globals: Vec<Span>,
+    addresses: HashMap<u32, u64>,
+}
+
+impl Model for Layout {
+    ghost use Rattle.std.specs.Coded.{codes};
+    ghost use Rattle.ir_core.specs.contracts.types.Ty as ty;
+    ghost use Rattle.ir_layout.specs.Memory.{LayoutParts, AreAddresses, AreApart};
+
+    ghost Value = { LayoutParts };
+
+    ghost coded = { Prim.hlevel (codes, ty.the_row.coded) };
+
+    ghost view = { λ l. record { types = l.types; globals = l.globals.items } };
+
+    ghost invariant = { λ l. AreAddresses l.globals.items l.addresses × AreApart l.globals.items };
+}
+
+impl Layout {
+    /// The layout of named types and of globals that have their places.
+    pub(crate) fn of(types: TypeTable, globals: Vec<Span>, addresses: HashMap<u32, u64>) -> Layout
+        requires addresses { AreAddresses globals.items addresses }
+        requires apart { AreApart globals.items }
+        ensures { result ≡ record { types = types; globals = globals.items } }
+    {
+        Layout {
+            types,
+            globals,
+            addresses,
+        }
+    }
+
+    /// The limit that a type breaks: `TypeDepth` where it nests too deep, else `TypeSize` where it has too many bytes.
+    pub fn limit(&self, ty: &Ty) -> Option<LimitKind>
+        ensures { result ≡ limit_of self.now.types ty.now }
+    {
+        self.types.limit(ty)
+    }
+
+    /// How many bytes a type takes.
+    pub fn size_of(&self, ty: &Ty) -> u64
+        requires { limit_of self.now.types ty.now ≡ None }
+        ensures { result ≡ size_of self.now.types ty.now }
+    {
+        self.types.known_shape(ty).size
+    }
+
+    /// The address of a global, or `None` exactly for a name that is no global.
+    pub fn address(&self, sym: Sym) -> Option<u64>
+        ensures { result ≡ address_of self.now.globals sym }
+    {
+        self.addresses.get(&sym.0).copied()
+    }
+
+    /// The offset of indices into a type, modulo 2^64, or `None` exactly where an index doesn't fit.
+    pub fn offset(&self, base: &Ty, index: &[(Width, u64)]) -> Option<u64>
+        ensures { result ≡ offset_of self.now.types base.now index.now }
+    {
+        offsets::offset(&self.types, base, index)
+    }
+
+    /// Whether an access of so many bytes at an address is valid.
+    pub fn valid(&self, addr: u64, size: u64) -> bool
+        ensures { result ≡ is_valid self.now.globals addr size }
+    {
+        spans::is_valid(self.globals.as_slice(), addr, size)
+    }
+}
