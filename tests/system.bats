@@ -46,7 +46,7 @@ answered_lines() {
 
 size_of() { stat -c %s "$1"; }
 
-# sums COUNT writes a small text of COUNT sums, each of the one before it and 1, then an output of the last.
+# sums COUNT writes a text of COUNT sums, each of the one before it and 1, then an output of the last.
 # Its return's code has leading zeros, so that it has the greatest size that a file may have.
 sums() {
     awk -v count="$1" -v size="$greatest_size" 'BEGIN {
@@ -61,7 +61,7 @@ sums() {
     }'
 }
 
-# short_sums COUNT writes a small text of COUNT sums in the shortest lines, for the most instructions in a file.
+# short_sums COUNT writes a text of COUNT sums in the shortest lines, for the most instructions in a file.
 short_sums() {
     awk -v count="$1" 'BEGIN {
         digits = "0123456789"; letters = "ABCDEFGHIJKLMNOPQRSTUVWXYZabcdefghijklmnopqrstuvwxyz"; all = letters digits
@@ -74,7 +74,7 @@ short_sums() {
     }'
 }
 
-# constants COUNT writes a small text of COUNT outputs of 1.
+# constants COUNT writes a text of COUNT outputs of 1.
 constants() {
     printf 'declare void @haft_out(i64)\ndefine i32 @main() {\n'
     yes '  call void @haft_out(i64 1)' | head -n "$1"
@@ -114,7 +114,7 @@ constants() {
 }
 
 @test "a second file of more than 4 MiB is refused before the text of the first is looked at" {
-    echo "no small text" >first
+    echo "no module" >first
     head -c $((greatest_size + 1)) /dev/zero >second
     answer run first second
     answered_lines 1 "refused long second"
@@ -129,13 +129,13 @@ constants() {
     head -c $greatest_size /dev/zero >first
     echo "turn 0 1" >second
     answer run first second
-    answered_lines 1 "refused unbuilt first"
+    answered_lines 1 "refused text 1 byte 1"
 }
 
 @test "a second file of exactly 4 MiB is read, and refused for its text" {
     head -c $greatest_size /dev/zero >second
     answer run "$sum" second
-    answered_lines 1 "refused unbuilt second"
+    answered_lines 1 "refused schedule 1"
 }
 
 @test "a text of 4 MiB with 127,000 sums runs to its end within 20 seconds" {
@@ -156,10 +156,11 @@ constants() {
 
 @test "a text of 4 MiB with a fault in its last line is refused within 20 seconds" {
     sums 127000 >whole
-    head -c $((greatest_size - 1)) whole >first
+    head -c $((greatest_size - 2)) whole >first
     echo "turn 0 1" >second
     answer run first second
-    answered_lines 1 "refused unbuilt first"
+    # two lines before the sums, two behind them, and the one that is missing
+    answered_lines 1 "refused text $((2 + 127000 + 2 + 1)) end"
 }
 
 @test "a text of nearly 4 MiB with 144,000 outputs writes them all within 20 seconds" {
@@ -239,7 +240,7 @@ constants() {
 }
 
 @test "a full device ends a refusal with status 4" {
-    echo "turn 1 5" >second
+    echo "turn 64 5" >second
     status=0
     "$program" run "$sum" second >/dev/full || status=$?
     [ "$status" -eq 4 ]

@@ -14,7 +14,7 @@ use Rattle.ir_action.specs.declared.actions.Request.TheVariants.{Output as Given
 use Rattle.ir_action.specs.Registers.{get, put}
 use Rattle.ir_action.specs.Action.{action_of, destination, on_word, word_of, word_at}
 use Rattle.haft_run.specs.Source.{State, Frame, Running, Exiting, Answer, Went, Idle, Undefined, Ended, callees, code_of, assigned, done, fetched, exited, step, opening, run_from, source}
-use Rattle.haft_run.specs.Meaning.{NoneUndefined, UndefinedOnly, IsGood}
+use Rattle.haft_run.specs.Meaning.{UndefinedOnly}
 use Rattle.haft_run.proofs.Places.{slice_get-drop, drop-suc}
 
 -- what has to hold of what is left of a block, by the action before it
@@ -91,21 +91,6 @@ run_from-only allowed m s (t ∷ turns) fine =
 -- a module whose code is ready comes to undefined steps only for allowed causes
 pub ready_only : (allowed : Faults → Type 0) (m : ModuleParts) → Ready allowed (callees m) [] (code_of m 0 0) → (turns : List ℕ) → UndefinedOnly allowed (source m turns).answers
 ready_only allowed m ready = λ turns. run_from-only allowed m opening turns (Runs _ refl refl refl refl ready)
-
--- no cause at all
-abbrev pub NoCause : Faults → Type 0
-NoCause fault = ⊥
-
-none-undefined : (answers : List Answer) → UndefinedOnly NoCause answers → NoneUndefined answers
-none-undefined [] h = tt
-none-undefined (Went ∷ answers) h = none-undefined answers h
-none-undefined (Idle ∷ answers) h = none-undefined answers h
-none-undefined (Undefined fault ∷ answers) h = h.0
-none-undefined (Ended code ∷ answers) h = none-undefined answers h
-
--- where no cause is allowed, the module is good
-pub ready_is_good : (m : ModuleParts) → Ready NoCause (callees m) [] (code_of m 0 0) → IsGood m
-ready_is_good m ready = λ turns. none-undefined (source m turns).answers (ready_only NoCause m ready turns)
 
 -- a register has a word
 pub data HasWord (found : Option ℕ) : Type 0 where

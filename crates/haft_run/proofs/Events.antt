@@ -1,4 +1,4 @@
--- Which turns an event adds.
+-- Runs over the events of a schedule, one by one, and which turns an event adds.
 use Rattle.std.proofs.Common.{ℕ, zero, suc, ◌≡◌, ◌+◌, ◌≤◌, ◌++◌, refl, ap, sym, ◌∙◌, append-nil, List, [], ◌∷◌, Option, Some, None, true, false, length, length-append, arith, slice_get}
 use Rattle.ir_core.specs.Module.{ModuleParts}
 use Rattle.hard_ir.specs.declared.instruction.HInst.{HInst}
@@ -61,6 +61,10 @@ pub length-event : (m : ModuleParts) (functions : List (List HBlock)) (h : Machi
 length-event m functions h e =
     let g = event-Grows m functions h e in
     omega (arith, ap (λ (turns : List ℕ). length turns) g.is, length-append h.turns g.more, g.few)
+
+-- a run over the events of a schedule of which none is left
+pub run_from-ended : (m : ModuleParts) (functions : List (List HBlock)) (h : Machine) (left : List Happening) → left ≡ [] → run_from m functions h (machine_events left) ≡ h
+run_from-ended m functions h left e = rw e refl
 
 -- a run over one event of a schedule, and over those behind it
 pub run_from-next : (m : ModuleParts) (functions : List (List HBlock)) (h : Machine) (e : Happening) (rest : List Happening) → run_from m functions h (machine_events (e ∷ rest)) ≡ run_from m functions (run_from m functions h (machine_events (e ∷ []))) (machine_events rest)

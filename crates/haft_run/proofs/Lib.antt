@@ -9,9 +9,7 @@ pub mod Kept
 pub mod Steps
 pub mod Simulation
 pub mod Images
-pub mod Repeats
 pub mod Defined
-pub mod SmallTexts
 pub mod BuiltModules
 pub mod Tests
 pub mod Upsets

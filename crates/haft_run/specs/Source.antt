@@ -116,7 +116,7 @@ unless_ended false s next = next
 abbrev pub step : ModuleParts → State → ℕ → State × Answer
 step m s t = unless_ended s.ended s (turned m s t (thread_at s.threads t))
 
--- thread 0 stands at the entry of the function of a small text, `main`; nothing was given out
+-- thread 0 stands at the entry of the first function, `main`; nothing was given out
 abbrev pub opening : State
 opening = record {
   threads = Running (record { function = 0; block = 0; index = 0; registers = [] }) ∷ [];

@@ -6,7 +6,7 @@ use Rattle.hard_ir.specs.declared.instruction.HBlock.{HBlock}
 use Rattle.hard_ir.specs.Image.{hardened}
 use Rattle.haft_run.specs.declared.outcome.Stop.TheVariants.{Bound}
 use Rattle.haft_run.specs.declared.outcome.RunResult.{RunResult}
-use Rattle.haft_run.specs.Hard.{Machine, Event, Turn, opening, run_from}
+use Rattle.haft_run.specs.Hard.{Machine, Event, opening, run_from}
 
 -- a turn before turns that are grouped
 abbrev pub grouped_with : ℕ → List (Tid × ℕ) → List (Tid × ℕ)
@@ -48,7 +48,3 @@ result_of h = record {
 -- the run of the hardened module on a list of events
 abbrev pub run_on : ModuleParts → List Event → RunResult
 run_on m events = result_of (run_from m (hardened_functions m) opening events)
-
--- the events of a small schedule
-abbrev pub turns_of_main : ℕ → List Event
-turns_of_main count = replicate count (Turn 0)

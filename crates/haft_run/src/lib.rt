@@ -5,8 +5,7 @@
 //! `specs/Hard.antt` on the image of `hard_ir`'s `specs/Image.antt`, over the schedule's events. Where the module is
 //! good, which is that no list of turns comes to an undefined step, the result stands for a run of the source program
 //! (`specs/Source.antt`), as `specs/Meaning.antt` says; a step of a built module is undefined only by an operator.
-//! `report` writes a result as bytes (`specs/Report.antt`). `run_small` is `run` for turns of thread 0 alone, for any
-//! module.
+//! `report` writes a result as bytes (`specs/Report.antt`).
 //!
 //! The passes and the machine are private, and plain by design: they serve one block and one thread, and
 //! crates of their own take their place.
@@ -26,5 +25,5 @@ mod turns;
 pub use building::built;
 pub use outcome::{Aborts, RunResult, Stop};
 pub use printing::report;
-pub use runs::{run, run_small};
+pub use runs::run;
 pub use schedules::upset_free;

@@ -223,7 +223,7 @@ impl Machine {
 
     /// A turn of a thread. Only thread 0 was ever made. After a stop nothing changes. After want of memory,
     /// what the machine holds isn't said.
-    pub fn turn(
+    fn turn(
         &mut self,
         alloc: Global,
         m: &Module,

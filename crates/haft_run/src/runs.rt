@@ -1,8 +1,7 @@
 //! A program, hardened and run.
-ghost use Rattle.std.specs.Prelude.{ℕ, ◌≡◌, ◌<◌, ◌^◌, List, length, IfOk};
+ghost use Rattle.std.specs.Prelude.{◌≡◌, ◌<◌, ◌^◌, length, IfOk};
 ghost use Rattle.sched_file.specs.Events.{events_of};
-ghost use Rattle.small_text.specs.SmallText.{SmallText};
-ghost use Rattle.haft_run.specs.Turns.{run_on, turns_of_main};
+ghost use Rattle.haft_run.specs.Turns.{run_on};
 ghost use Rattle.haft_run.specs.Meaning.{IsGood, Means, Told};
 ghost use Rattle.haft_run.specs.Built.{IsBuilt};
 ghost use Rattle.haft_run.specs.Schedule.{IsUpsetFree, machine_events};
@@ -11,28 +10,9 @@ use crate::RunResult;
 use crate::hardening::harden;
 use crate::machine::Machine;
 use ir_action::callees_of;
-use ir_core::{Module, Tid};
+use ir_core::Module;
 use sched_file::Schedule;
 use std::alloc::{AllocError, Global};
-
-/// Hardens a module, and runs it over so many turns of thread 0.
-pub fn run_small(alloc: Global, m: &Module, turns: u64) -> Result<RunResult, AllocError>
-    // The result is that of the hardened module's run.
-    ensures exact { IfOk result (λ r. r ≡ run_on m.now (turns_of_main turns)) }
-    // The result stands for a run of a good module.
-    ensures meaning { IsGood m.now → IfOk result (λ r. Means m.now r) }
-    // A small text's module is good.
-    ensures small { (text : List ℕ) → SmallText text m.now → IfOk result (λ r. Means m.now r) }
-{
-    let callees = callees_of(alloc, m)?;
-    let hardened = harden(alloc, m)?;
-    let functions = hardened.items();
-    let mut machine = Machine::new(alloc);
-    for _turn in 0..turns {
-        machine.turn(alloc, m, functions, &callees, Tid(0))?;
-    }
-    Ok(machine.result())
-}
 
 /// Hardens a module, and runs it over the events of a schedule. Turns of threads that were never made do
 /// nothing, nor do aborts, and events after the stop change nothing.

@@ -1,32 +1,74 @@
 //! Which modules are built, and which schedules have no upset.
-use crate::texts::SUM;
+use crate::runs::module_of;
 use haft_run::{built, upset_free};
-use ir_core::{Func, Module, Ty};
 use sched_file::parse_schedule;
-use small_text::read_module;
-use std::alloc::Global;
-use std::process::Abort;
 
-fn module_of(rt: &impl Abort, alloc: Global, text: &str) -> Option<Module> {
-    assert!(rt; text.len() <= 4_194_304);
-    read_module(alloc, text.as_bytes()).expect(rt, "no memory to read")
-}
+/// Texts of modules, and whether these are built.
+const MODULES: &[(&str, bool)] = &[
+    ("", false),
+    ("define i32 @main() {\n  ret i32 0\n}\n", true),
+    ("define i32 @main() {\nentry:\n  ret i32 0\n}\n", true),
+    ("define i32 @main() {\n}\n", false),
+    ("define void @main() {\n  ret void\n}\n", false),
+    ("define i32 @main(i32 %x) {\n  ret i32 0\n}\n", false),
+    ("define i32 @other() {\n  ret i32 0\n}\n", false),
+    (
+        "define i32 @main() {\n  ret i32 0\n}\ndefine i32 @other() {\n  ret i32 0\n}\n",
+        false,
+    ),
+    (
+        "define i32 @main() {\n  br label %a\na:\n  ret i32 0\n}\n",
+        false,
+    ),
+    (
+        "@g = global i64 0\ndefine i32 @main() {\n  ret i32 0\n}\n",
+        false,
+    ),
+    (
+        "%t = type { i64 }\ndefine i32 @main() {\n  ret i32 0\n}\n",
+        false,
+    ),
+    (
+        "declare void @haft_out(i64)\ndefine i32 @main() {\n  ret i32 0\n}\n",
+        true,
+    ),
+    (
+        "declare void @haft_out(i64)\ndeclare void @haft_out(i64)\ndefine i32 @main() {\n  ret i32 0\n}\n",
+        false,
+    ),
+    (
+        "declare void @haft_out(i32)\ndefine i32 @main() {\n  ret i32 0\n}\n",
+        false,
+    ),
+    (
+        "declare i64 @haft_out(i64)\ndefine i32 @main() {\n  ret i32 0\n}\n",
+        false,
+    ),
+    (
+        "declare ptr @malloc(i64)\ndefine i32 @main() {\n  ret i32 0\n}\n",
+        false,
+    ),
+    // A declare of no external is dropped.
+    (
+        "declare void @other(i64)\ndefine i32 @main() {\n  ret i32 0\n}\n",
+        true,
+    ),
+    (
+        "define i32 @main() {\n  call void @haft_out(i64 1)\n  ret i32 0\n}\n",
+        false,
+    ),
+    (
+        "declare void @haft_out(i64)\ndefine i32 @main() {\nentry:\n  %entry = add i64 1, 1\n  ret i32 0\n}\n",
+        false,
+    ),
+];
 
 #[test]
-fn small_texts_are_built(rt: HostRuntime) {
-    let m = module_of(&rt, rt.alloc(), SUM).expect(&rt, "a small text was refused");
-    assert!(rt; built(&m));
-}
-
-#[test]
-fn modules_of_other_forms_are_not_built(rt: HostRuntime) {
-    let alloc = rt.alloc();
-    assert!(rt; !built(&Module::new(alloc)));
-    let mut m = Module::new(alloc);
-    let main = m.sym(b"main").expect(&rt, "no memory for a name");
-    m.add_func(Func::new(alloc, main, Ty::Void))
-        .expect(&rt, "no memory for a function");
-    assert!(rt; !built(&m));
+fn modules_of_one_block_are_built(rt: HostRuntime) {
+    for (text, want) in MODULES {
+        let m = module_of(&rt, rt.alloc(), text);
+        assert!(rt; built(&m) == *want, "for {text:?}");
+    }
 }
 
 #[test]

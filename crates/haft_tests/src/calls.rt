@@ -1,50 +1,84 @@
 //! What the top call answers and writes.
 use crate::texts::{
-    REPORT, SUM, TURNS, UNKNOWN_OPERATION, bytes_of, inputs_of, run_on, sink_of, words_of,
+    BAD_BYTE, COUNT, REPORT, SUM, TURNS, TWO_BLOCKS, UNENDED, UNKNOWN_OPERATION, bytes_of,
+    inputs_of, run_on, sink_of, words_of,
 };
 use haft_cli::{Status, haft};
 use haft_io::{CleanInputs, CleanSink};
 
+/// Schedules for the sum, and the reports.
+const REPORTS: &[(&str, &str)] = &[
+    (TURNS, REPORT),
+    ("turn 0 2\nturn 0 38\n", REPORT),
+    ("turn 0 6", REPORT),
+    ("", "aborts 0 0 0 0\nstop bound\nsrc\n"),
+    ("turn 0 5\n", "out 5\naborts 0 0 0 0\nstop bound\nsrc 0*3\n"),
+    // Threads that were never made take turns for nothing. The third form is one turn, of thread 2.
+    ("turn 3 5\nturn 0 40\n", REPORT),
+    ("round 3 40\n", REPORT),
+    ("mix 3 0 1\n", "aborts 0 0 0 0\nstop bound\nsrc\n"),
+    ("mix 1 0 6\n", REPORT),
+    // Nothing is aborted, as there are no transactions.
+    ("# turns\nargs 7\n\n  turn 0 3\nabort 0\nturn 0 3\n", REPORT),
+];
+
 #[test]
-fn reports_and_refusals_are_written_as_the_files_ask(rt: HostRuntime) {
-    for (first, second, status, text) in [
-        (SUM, TURNS, Status::Done, REPORT),
-        (SUM, "turn 0 2\nturn 0 38\n", Status::Done, REPORT),
-        (SUM, "", Status::Done, "aborts 0 0 0 0\nstop bound\nsrc\n"),
-        (
-            SUM,
-            "turn 0 5\n",
-            Status::Done,
-            "out 5\naborts 0 0 0 0\nstop bound\nsrc 0*3\n",
-        ),
-        (
-            UNKNOWN_OPERATION,
-            TURNS,
-            Status::Refused,
-            "refused unbuilt first\n",
-        ),
-        (
-            SUM,
-            "turn 1 5\n",
-            Status::Refused,
-            "refused unbuilt second\n",
-        ),
-    ] {
-        let (answer, written) = run_on(&rt, rt.alloc(), first.as_bytes(), second.as_bytes(), 0, 0);
-        assert!(rt; answer == status, "for {second:?}");
+fn reports_are_written_as_the_schedules_ask(rt: HostRuntime) {
+    for (second, text) in REPORTS {
+        let (answer, written) = run_on(&rt, rt.alloc(), SUM.as_bytes(), second.as_bytes(), 0, 0);
+        assert!(rt; answer == Status::Done, "for {second:?}");
         assert_eq!(rt; written.as_slice(), text.as_bytes(), "for {second:?}");
+    }
+}
+
+/// Modules, schedules, and the lines of their refusals.
+const REFUSALS: &[(&str, &str, &str)] = &[
+    (UNKNOWN_OPERATION, TURNS, "refused text 3 fadd\n"),
+    (UNENDED, TURNS, "refused text 6 end\n"),
+    (BAD_BYTE, TURNS, "refused text 4 byte 27\n"),
+    ("", TURNS, "refused unbuilt first\n"),
+    (TWO_BLOCKS, TURNS, "refused unbuilt first\n"),
+    (COUNT, TURNS, "refused unbuilt first\n"),
+    (SUM, "turn 64 1\n", "refused schedule 1\n"),
+    (SUM, "turn 0 4194304\nturn 0 1\n", "refused schedule 2\n"),
+    (
+        SUM,
+        "turn 0 3\nupset 0 0 m.a 1\nturn 0 40\n",
+        "refused unbuilt second\n",
+    ),
+    // Where more than one holds, the text of the module comes first, then whether it is built, then the text of the
+    // schedule, then whether it has an upset.
+    (UNKNOWN_OPERATION, "turn 64 1\n", "refused text 3 fadd\n"),
+    (
+        UNKNOWN_OPERATION,
+        "upset 0 0 m.a 1\n",
+        "refused text 3 fadd\n",
+    ),
+    (BAD_BYTE, "turn 64 1\n", "refused text 4 byte 27\n"),
+    (TWO_BLOCKS, "turn 64 1\n", "refused unbuilt first\n"),
+    (TWO_BLOCKS, "upset 0 0 m.a 1\n", "refused unbuilt first\n"),
+    (SUM, "upset 0 0 m.a 1\nturn 64 1\n", "refused schedule 2\n"),
+];
+
+#[test]
+fn refusals_are_written_in_their_order(rt: HostRuntime) {
+    for (first, second, text) in REFUSALS {
+        let (answer, written) = run_on(&rt, rt.alloc(), first.as_bytes(), second.as_bytes(), 0, 0);
+        assert!(rt; answer == Status::Refused, "not {text:?}");
+        assert_eq!(rt; written.as_slice(), text.as_bytes());
     }
 }
 
 #[test]
 fn files_past_the_limit_are_refused_before_their_form_is_looked_at(rt: HostRuntime) {
-    let long = vec![in rt.alloc(); b'x'; 4_194_305].expect(&rt, "no memory for a long file");
+    let long = vec![in rt.alloc(); b'?'; 4_194_305].expect(&rt, "no memory for a long file");
     let within = &long[1..];
     for (first, second, text) in [
         (long.as_slice(), within, "refused long first\n"),
         (long.as_slice(), long.as_slice(), "refused long first\n"),
         (within, long.as_slice(), "refused long second\n"),
-        (within, within, "refused unbuilt first\n"),
+        (within, within, "refused text 1 byte 1\n"),
+        (SUM.as_bytes(), within, "refused schedule 1\n"),
     ] {
         let (answer, written) = run_on(&rt, rt.alloc(), first, second, 0, 0);
         assert!(rt; answer == Status::Refused, "not {text}");

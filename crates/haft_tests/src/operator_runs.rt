@@ -1,14 +1,10 @@
 //! Runs of modules with operators, comparisons, selections and casts. Expected words are worked out from the LLVM
 //! Language Reference, expected turns from the images: two hardened instructions for each of these, a check for each
 //! register that is given out or returned.
-ghost use Rattle.std.specs.Prelude.{IsTrue};
-ghost use Rattle.haft_run.specs.Built.{IsBuilt};
-
-use haft_run::{built, report, run, upset_free};
-use ir_core::{Declare, Func, Module, Seq, Ty, Width};
-use ir_lex::lex_line;
-use ir_parse_body::parse_inst;
-use sched_file::parse_schedule;
+use crate::runs::{module_of, report_of};
+use crate::texts::SUM;
+use haft_run::built;
+use ir_core::Module;
 use std::alloc::Global;
 use std::process::Abort;
 
@@ -115,9 +111,6 @@ const SCHEDULES: &[(&str, &str)] = &[
     ("turn 63 4194304", "aborts 0 0 0 0\nstop bound\nsrc\n"),
 ];
 
-/// Adds 2 and 3, and gives the sum out.
-const SUM: &str = "%a = add i64 2, 3\ncall void @haft_out(i64 %a)\nret i32 0";
-
 /// Blocks, and whether they are built.
 const FORMS: &[(&str, bool)] = &[
     ("ret i32 0", true),
@@ -168,67 +161,20 @@ const FORMS: &[(&str, bool)] = &[
     ("fence seq_cst\nret i32 0", false),
 ];
 
-/// `main` of one block, whose name is 0, with these lines.
-fn main_of(rt: &impl Abort, alloc: Global, m: &mut Module, lines: &str) -> Func {
-    assert!(rt; m.sym_count() < 4_294_967_295);
-    let main = m.sym(b"main").expect(rt, "no memory for a name");
-    let mut function = Func::new(alloc, main, Ty::Int(Width::W32));
-    let label = function.loc(b"0").expect(rt, "no memory for a name");
-    function
-        .add_block(label)
-        .expect(rt, "no memory for a block");
-    for line in lines.lines() {
-        let line = line.as_bytes();
-        assert!(rt; line.len() <= 4_194_304);
-        let tokens = lex_line(alloc, line).expect(rt, "a line has no tokens");
-        let inst = parse_inst(alloc, m, &mut function, line, &tokens).expect(rt, "a line is unfit");
-        assert!(rt; !function.blocks().is_empty());
-        function.add_inst(inst).expect(rt, "no memory for a line");
-    }
-    function
-}
-
 /// The module of these lines, which may give numbers out.
-fn module_of(rt: &impl Abort, alloc: Global, lines: &str) -> Module {
-    let mut m = Module::new(alloc);
-    let sym = m.sym(b"haft_out").expect(rt, "no memory for a name");
-    let mut params = Seq::new(alloc);
-    params
-        .push(Ty::Int(Width::W64))
-        .expect(rt, "no memory for a type");
-    m.add_declare(Declare {
-        sym,
-        ret: Ty::Void,
-        params,
-    })
-    .expect(rt, "no memory for a declare");
-    let main = main_of(rt, alloc, &mut m, lines);
-    m.add_func(main).expect(rt, "no memory for a function");
-    m
-}
-
-/// Whether the module is built.
-fn is_built(m: &Module) -> bool
-    ensures { IsTrue result → IsBuilt m.now }
-{
-    built(m)
-}
-
-/// The report of the run over a schedule.
-fn report_of(rt: &impl Abort, alloc: Global, m: &Module, schedule: &str) -> Vec<u8> {
-    assert!(rt; schedule.len() <= 4_194_304);
-    let schedule = parse_schedule(alloc, schedule.as_bytes()).expect(rt, "a schedule is unfit");
-    assert!(rt; is_built(m));
-    assert!(rt; upset_free(&schedule));
-    let result = run(alloc, m, &schedule).expect(rt, "no memory to run");
-    report(alloc, &result).expect(rt, "no memory for a report")
+fn main_of(rt: &impl Abort, alloc: Global, lines: &str) -> Module {
+    let text = format!(in alloc;
+        "declare void @haft_out(i64)\ndefine i32 @main() {{\n{lines}\n}}\n"
+    );
+    let text = text.expect(rt, "no memory for a text");
+    module_of(rt, alloc, &text)
 }
 
 #[test]
 fn operators_run_hardened(rt: HostRuntime) {
     let alloc = rt.alloc();
     for (lines, schedule, want) in RUNS {
-        let m = module_of(&rt, alloc, lines);
+        let m = main_of(&rt, alloc, lines);
         let found = report_of(&rt, alloc, &m, schedule);
         assert!(rt;
             found.as_slice() == want.as_bytes(),
@@ -251,7 +197,7 @@ fn runs_go_by_the_events_of_schedules(rt: HostRuntime) {
 fn registers_are_used_at_their_width(rt: HostRuntime) {
     let alloc = rt.alloc();
     for (lines, want) in FORMS {
-        let m = module_of(&rt, alloc, lines);
+        let m = main_of(&rt, alloc, lines);
         assert!(rt; built(&m) == *want, "for {lines:?}");
     }
 }
@@ -277,6 +223,6 @@ fn far_registers_are_found(rt: HostRuntime) {
     let good = format!(in alloc; "{lines}ret i32 0").expect(&rt, "no memory for lines");
     let bad = format!(in alloc; "{lines}call void @haft_out(i64 %b)\nret i32 0");
     let bad = bad.expect(&rt, "no memory for lines");
-    assert!(rt; built(&module_of(&rt, alloc, &good)));
-    assert!(rt; !built(&module_of(&rt, alloc, &bad)));
+    assert!(rt; built(&main_of(&rt, alloc, &good)));
+    assert!(rt; !built(&main_of(&rt, alloc, &bad)));
 }

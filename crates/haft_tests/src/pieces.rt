@@ -1,10 +1,9 @@
 //! The calls below the top one, each by itself.
-use crate::texts::{REPORT, SUM, UNKNOWN_OPERATION, inputs_of, sink_of};
+use crate::runs::{module_of, result_of};
+use crate::texts::{REPORT, SUM, TURNS, inputs_of, sink_of};
 use haft_io::{Failed, ReadFail, Which, read_whole, write_whole};
-use haft_run::{Aborts, RunResult, Stop, report, run_small};
+use haft_run::{Aborts, RunResult, Stop, report};
 use ir_core::{Module, Out, Sym, Tid};
-use small_text::{read_module, read_turns};
-use std::alloc::Global;
 use std::process::Abort;
 
 #[test]
@@ -36,28 +35,6 @@ fn whole_texts_are_written(rt: HostRuntime) {
     assert_eq!(rt; out.bytes(), b"a text, m".as_slice());
 }
 
-#[test]
-fn schedules_add_up_to_the_limit(rt: HostRuntime) {
-    for (text, turns) in [
-        ("", Some(0)),
-        ("turn 0 5\nturn 0 35\n", Some(40)),
-        ("turn 0 4194304\n", Some(4_194_304)),
-        ("turn 0 4194304\nturn 0 1\n", None),
-        ("turn 0 4194305\n", None),
-        ("turn 1 5\n", None),
-        ("turn 0 5", None),
-        ("turn 0 \n", None),
-    ] {
-        assert!(rt; read_turns(text.as_bytes()) == turns, "for {text:?}");
-    }
-}
-
-/// The module of the text, where it is a small one.
-fn module_of(rt: &impl Abort, alloc: Global, text: &str) -> Option<Module> {
-    assert!(rt; text.len() <= 4_194_304);
-    read_module(alloc, text.as_bytes()).expect(rt, "no memory to read")
-}
-
 /// The sum is a declare and a function, and has two names.
 fn check_sum(rt: &impl Abort, m: &Module) {
     assert!(rt; m.declares().len() == 1);
@@ -85,15 +62,10 @@ fn check_run(rt: &impl Abort, sum: &RunResult) {
 
 #[test]
 fn a_text_is_read_run_and_reported(rt: HostRuntime) {
-    let m = module_of(&rt, rt.alloc(), SUM).expect(&rt, "a small text was refused");
+    let m = module_of(&rt, rt.alloc(), SUM);
     check_sum(&rt, &m);
-    let result = run_small(rt.alloc(), &m, 40).expect(&rt, "no memory to run");
+    let result = result_of(&rt, rt.alloc(), &m, TURNS);
     check_run(&rt, &result);
     let text = report(rt.alloc(), &result).expect(&rt, "no memory for a report");
     assert!(rt; text.as_slice() == REPORT.as_bytes());
-}
-
-#[test]
-fn a_text_with_an_unknown_operation_is_not_read(rt: HostRuntime) {
-    assert!(rt; module_of(&rt, rt.alloc(), UNKNOWN_OPERATION).is_none());
 }

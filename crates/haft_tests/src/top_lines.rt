@@ -3,8 +3,8 @@ use crate::shown::{address, inner_type, number, symbol, word};
 use ir_core::{GlobalVar, Init, Loc, Ty};
 use ir_grammar::{BodyLine, TopLine};
 use ir_lex::lex_line;
-use ir_parse_parts::LineError;
 use ir_parse_lines::{read_body_line, read_top_line};
+use ir_parse_parts::LineError;
 use std::alloc::Global;
 use std::process::Abort;
 

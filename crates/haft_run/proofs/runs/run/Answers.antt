@@ -5,8 +5,7 @@ use Rattle.haft_run.specs.Hard.{Machine, opening, run_from}
 use Rattle.haft_run.specs.State.{state_of}
 use Rattle.haft_run.specs.Schedule.{machine_events}
 use Rattle.haft_run.specs.Turns.{result_of}
-use Rattle.haft_run.proofs.Events.{run_from-next, length-next}
-use Rattle.haft_run.proofs.Repeats.{run_from-ended}
+use Rattle.haft_run.proofs.Events.{run_from-ended, run_from-next, length-next}
 use Rattle.haft_run.proofs.Simulation.{run_on-told, run_on-means}
 use Rattle.haft_run.proofs.runs.run.Goals as goal
 

@@ -1,0 +1,45 @@
+//! Runs of whole texts.
+ghost use Rattle.std.specs.Prelude.{IsTrue};
+ghost use Rattle.haft_run.specs.Built.{IsBuilt};
+
+use haft_run::{RunResult, built, report, run, upset_free};
+use ir_core::Module;
+use ir_parse_top::parse_module;
+use sched_file::parse_schedule;
+use std::alloc::Global;
+use std::process::Abort;
+
+/// The module of a text that has one.
+pub fn module_of(rt: &impl Abort, alloc: Global, text: &str) -> Module {
+    let bytes = text.as_bytes();
+    assert!(rt; bytes.len() <= 4_194_304);
+    match parse_module(alloc, bytes) {
+        Ok(m) => m,
+        Err(error) => {
+            drop(error);
+            panic!(rt; "a text has no module")
+        }
+    }
+}
+
+/// Whether the module is built.
+fn is_built(m: &Module) -> bool
+    ensures { IsTrue result → IsBuilt m.now }
+{
+    built(m)
+}
+
+/// What a module that is built comes to over a schedule without upsets.
+pub fn result_of(rt: &impl Abort, alloc: Global, m: &Module, schedule: &str) -> RunResult {
+    assert!(rt; schedule.len() <= 4_194_304);
+    let schedule = parse_schedule(alloc, schedule.as_bytes()).expect(rt, "a schedule is unfit");
+    assert!(rt; is_built(m));
+    assert!(rt; upset_free(&schedule));
+    run(alloc, m, &schedule).expect(rt, "no memory to run")
+}
+
+/// The report of that run.
+pub fn report_of(rt: &impl Abort, alloc: Global, m: &Module, schedule: &str) -> Vec<u8> {
+    let result = result_of(rt, alloc, m, schedule);
+    report(alloc, &result).expect(rt, "no memory for a report")
+}

@@ -1,4 +1,0 @@
-pub mod Fronts
-pub mod Schedules
-pub mod LineLaws
-pub mod Building
