@@ -3,7 +3,6 @@ use crate::shown::shown;
 use ir_core::{Func, Inst, Module, Sym, Ty};
 use ir_lex::lex_line;
 use ir_parse_body::parse_inst;
-use ir_parse_parts::LineError;
 use std::alloc::Global;
 use std::process::Abort;
 
@@ -634,9 +633,6 @@ fn lines_stop_at_their_first_unfit_token(rt: HostRuntime) {
         let place = most.saturating_mul(open.len()).saturating_add(before.len());
         assert_unfit(&rt, alloc, &line, place);
     }
-    let no_memory = format!(in alloc; "{}", LineError::NoMemory);
-    let no_memory = no_memory.expect(&rt, "no memory for a text");
-    assert!(rt; no_memory.as_str() == "no memory");
 }
 
 /// Lines of one function, and what they stand for one after the other: a name keeps the number that its first

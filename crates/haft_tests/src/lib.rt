@@ -7,6 +7,8 @@ mod built_modules;
 #[cfg(test)]
 mod calls;
 #[cfg(test)]
+mod errors;
+#[cfg(test)]
 mod faults;
 #[cfg(test)]
 mod instruction_lines;

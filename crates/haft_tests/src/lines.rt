@@ -1,7 +1,7 @@
 //! Texts cut into lines, lines cut into tokens or dropped, and what strings stand for.
 use ir_lex::TokKind::{At, Bang, Bytes, Hash, Label, Local, Num, Punct, Str, Word};
 use ir_lex::{
-    LexError, LinePlace, TokKind, is_dropped, lex_line, lines_law, name_from, split_line,
+    LinePlace, TokKind, is_dropped, lex_line, lines_law, name_from, split_line,
     string_bytes,
 };
 use std::alloc::Global;
@@ -152,9 +152,6 @@ fn the_first_column_is_told_where_no_token_begins(rt: HostRuntime) {
         let told = told.expect(&rt, "no memory for a text");
         assert!(rt; text.as_str() == told.as_str(), "{text} in {line:?}");
     }
-    let error = LexError::NoMemory;
-    let text = format!(in rt.alloc(); "{error}").expect(&rt, "no memory for a text");
-    assert!(rt; text.as_str() == "no memory");
 }
 
 /// Lines, and whether they are dropped outside functions and inside one.

@@ -246,13 +246,3 @@ fn a_line_of_four_million_events_is_one_entry(rt: HostRuntime) {
         assert!(rt; cursor.next_event().is_none(), "in {text:?}");
     }
 }
-
-#[test]
-fn errors_of_schedules_say_what_is_wrong(rt: HostRuntime) {
-    let refused = format!(in rt.alloc(); "{}", SchedError::Refused { line: 12 });
-    let refused = refused.expect(&rt, "no memory for a text");
-    assert!(rt; refused.as_str() == "unfit line 12");
-    let no_memory = format!(in rt.alloc(); "{}", SchedError::NoMemory);
-    let no_memory = no_memory.expect(&rt, "no memory for a text");
-    assert!(rt; no_memory.as_str() == "no memory");
-}
