@@ -1,17 +1,15 @@
 -- Lines with tokens, and what was made of these.
 use Rattle.std.specs.Prelude.{codes}
-use Rattle.std.proofs.Common.{◌≡◌, ℕ, ◌+◌, Bool, true, false, inl, List, [], ◌∷◌, ◌++◌, length, ap, refl, sym, subst, ◌∙◌, ◌<◌, arith}
+use Rattle.std.proofs.Common.{◌≡◌, ℕ, ◌+◌, false, inl, List, [], ◌∷◌, ◌++◌, length, ap, refl, sym, subst, ◌∙◌, arith}
 use Rattle.std.proofs.lemmas.List.{append-nil, length-append}
 use Rattle.ir_core.specs.declared.text.Token.{Token}
 use Rattle.ir_core.specs.declared.text.LinePlace.TheVariants.{Top, Function}
-use Rattle.ir_core.specs.declared.types.Loc.{Loc}
-use Rattle.ir_core.specs.Module.{ModuleParts, FuncParts}
 use Rattle.ir_grammar.specs.declared.trees.TopLine.{TopLine}
 use Rattle.ir_grammar.specs.declared.trees.BodyLine.{BodyLine}
 use Rattle.ir_grammar.specs.Fitting.{IsLine, IsUnfit}
 use Rattle.ir_grammar.specs.Tokens.{tokens_of}
 use Rattle.ir_grammar.specs.Top.{top_line, body_line}
-use Rattle.ir_parse_top.specs.Sheet.{Sheet, Outside, Inside, with_top, with_body}
+use Rattle.ir_parse_top.specs.Sheet.{Outside, Inside, with_top, with_body}
 use Rattle.ir_parse_top.specs.Text.{Line, is_unclosed, Fault, BadWord, word_at, Trips}
 use Rattle.ir_parse_top.specs.Reading.{Left, lines_left, FindsText, FindsNothing, FindsTop, FindsBody, TripsOutside, TripsInside}
 use Rattle.ir_parse_top.proofs.Runs.{text_leads, text_trips, trips_append, run_passed}

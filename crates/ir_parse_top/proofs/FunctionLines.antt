@@ -1,10 +1,10 @@
 -- The lines of a function, one after another.
-use Rattle.std.proofs.Common.{◌≡◌, ℕ, ◌+◌, ◌<◌, Bool, true, false, List, [], ◌∷◌, ◌++◌, length, ap, refl, sym, subst, ◌∙◌, arith}
-use Rattle.std.proofs.lemmas.List.{append_assoc, length-append}
+use Rattle.std.proofs.Common.{◌≡◌, ℕ, ◌+◌, ◌<◌, true, false, List, [], ◌++◌, length, ap, refl, sym, subst, ◌∙◌, arith}
+use Rattle.std.proofs.lemmas.List.{length-append}
 use Rattle.ir_core.specs.declared.types.Loc.{Loc}
 use Rattle.ir_core.specs.Module.{ModuleParts, FuncParts}
 use Rattle.ir_grammar.specs.declared.trees.BodyLine.{BodyLine}
-use Rattle.ir_parse_top.specs.Sheet.{Sheet, Outside, Inside, with_body}
+use Rattle.ir_parse_top.specs.Sheet.{Sheet, Inside, with_body}
 use Rattle.ir_parse_top.specs.Text.{Line, Fault, Run, Trips}
 use Rattle.ir_parse_top.specs.Reading.{Left, lines_left, Goes, FindsBody, FindsEnd, TripsFrom, TripsInside, TripsIn, sheet_behind}
 use Rattle.ir_parse_top.proofs.PassedLines.{goes_none, goes_on}

@@ -5,12 +5,12 @@ use Rattle.std.proofs.Common.{◌≡◌, ℕ, ◌+◌, ◌-◌, ◌≤◌, ◌<�
 use Rattle.std.proofs.lemmas.List.{append-nil, append_assoc, length-append, length-map}
 use Rattle.std.proofs.Math.Seq.{drop-append_seam}
 use Rattle.ir_core.specs.declared.text.Token.{Token}
-use Rattle.ir_core.specs.Tokens.{HasTokens, HasBadColumn, AreWithin, IsWithin}
+use Rattle.ir_core.specs.Tokens.{HasBadColumn, AreWithin, IsWithin}
 use Rattle.ir_parse_top.specs.declared.switches.Pause.{Pause}
 use Rattle.ir_parse_top.specs.declared.switches.Pause.TheVariants.{Closed, AtColumn, AtEnd}
 use Rattle.ir_parse_top.specs.Text.{Line, moved, all_moved}
 use Rattle.ir_parse_top.specs.Reading.{Left, lines_left, Takes, AddsTokens, closes, Grows, Pauses, AreSound, GrowsBy, ComesTo, Gathers, taken}
-use Rattle.ir_grammar.specs.Fitting.{IsLine, IsUnfit}
+use Rattle.ir_grammar.specs.Fitting.{IsUnfit}
 use Rattle.ir_grammar.specs.Tokens.{token_of, tokens_of}
 use Rattle.ir_grammar.specs.Top.{body_line}
 use Rattle.ir_parse_top.proofs.LinesLeft.{to_end}

@@ -1,7 +1,6 @@
 -- A `switch` over several lines: where its tokens fit the lines are read, and the first unfit one is on the line that is told.
-use Rattle.std.specs.Prelude.{nat_le, slice_get, codes}
-use Rattle.std.specs.List.{list_any, prefix_len}
-use Rattle.std.proofs.Common.{◌≡◌, ℕ, zero, suc, ◌+◌, ◌≤◌, ◌<◌, ◌⊎◌, inl, inr, Bool, true, false, List, [], ◌∷◌, ◌++◌, length, leb, Option, ap, refl, sym, subst, ◌∙◌, arith}
+use Rattle.std.specs.Prelude.{slice_get}
+use Rattle.std.proofs.Common.{◌≡◌, ℕ, zero, suc, ◌+◌, ◌≤◌, ◌<◌, inl, inr, Bool, true, false, List, [], ◌∷◌, ◌++◌, length, leb, Option, ap, refl, sym, subst, ◌∙◌, arith}
 use Rattle.std.proofs.lemmas.Bool.{false≢true, leb-true, leb-false, le-leb, lt-leb}
 use Rattle.std.proofs.lemmas.List.{append-nil, append_assoc, length-append, length-map, map-append}
 use Rattle.ir_core.specs.declared.text.Token.{Token}
@@ -12,10 +11,10 @@ use Rattle.ir_core.specs.Tokens.{HasTokens}
 use Rattle.ir_grammar.specs.declared.trees.BodyLine.{BodyLine}
 use Rattle.ir_grammar.specs.Parts.{Tok}
 use Rattle.ir_grammar.specs.Fitting.{IsLine, IsUnfit}
-use Rattle.ir_grammar.specs.Tokens.{token_of, tokens_of, is_punct, close_bracket}
+use Rattle.ir_grammar.specs.Tokens.{token_of, tokens_of}
 use Rattle.ir_grammar.specs.Top.{body_line}
-use Rattle.ir_parse_top.specs.Sheet.{Sheet, Inside, with_body}
-use Rattle.ir_parse_top.specs.Text.{Line, moved, all_moved, is_unclosed, place_of_switch, GoesOn, Says, HasText, Leads, Blank, Said, Fault, BadWord, text_or_end, word_at, CantStand, Stops, AtWord, Run, Trips}
+use Rattle.ir_parse_top.specs.Sheet.{Sheet, Inside}
+use Rattle.ir_parse_top.specs.Text.{Line, all_moved, is_unclosed, place_of_switch, Leads, Blank, Said, BadWord, text_or_end, word_at, AtWord, Run, Trips}
 use Rattle.ir_parse_top.specs.Reading.{closes, Grows, count_until}
 use Rattle.ir_parse_top.proofs.PassedLines.{cons_isnt_nil}
 use Rattle.ir_parse_top.proofs.Unfit.{unfit_front, front_early, line_early}

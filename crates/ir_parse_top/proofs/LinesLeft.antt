@@ -1,10 +1,10 @@
 -- The lines that are left of a text, one after another.
 use Rattle.std.specs.Prelude.{Option, Some, None, IfNone}
-use Rattle.std.proofs.Common.{◌≡◌, ℕ, ◌+◌, ◌-◌, ◌≤◌, ◌<◌, ◌⊎◌, inl, inr, List, [], ◌∷◌, ◌++◌, length, take, drop, ap, refl, sym, subst, ◌∙◌, arith}
+use Rattle.std.proofs.Common.{◌≡◌, ℕ, ◌+◌, ◌-◌, ◌≤◌, ◌⊎◌, inl, inr, List, [], ◌∷◌, ◌++◌, length, take, drop, ap, refl, sym, subst, ◌∙◌, arith}
 use Rattle.std.proofs.lemmas.List.{drop-drop, drop_all, take_all, length-drop}
 use Rattle.std.proofs.Math.Seq.{drop-append-add}
 use Rattle.ir_core.specs.Lines.{lines_of, IsFirstLine}
-use Rattle.ir_parse_top.specs.Text.{Line, placed}
+use Rattle.ir_parse_top.specs.Text.{placed}
 use Rattle.ir_parse_top.specs.Reading.{Takes}
 
 -- behind the end of a text there are no lines

@@ -1,11 +1,11 @@
 -- Lines that have been taken one after another, and those of them that say nothing.
 use Rattle.std.specs.Prelude.{⊤}
 use Rattle.std.specs.List.{AllByRecursion}
-use Rattle.std.proofs.Common.{◌≡◌, ℕ, ◌+◌, ◌≤◌, ◌<◌, ◌⊎◌, List, [], ◌∷◌, ◌++◌, length, map, ap, refl, sym, subst, ◌∙◌, arith}
+use Rattle.std.proofs.Common.{◌≡◌, ℕ, ◌+◌, ◌≤◌, ◌<◌, List, [], ◌∷◌, ◌++◌, length, ap, refl, sym, subst, ◌∙◌, arith}
 use Rattle.std.proofs.lemmas.List.{append-nil, append_assoc, length-append, length-map}
 use Rattle.ir_core.specs.declared.text.Token.{Token}
 use Rattle.ir_core.specs.declared.text.LinePlace.{LinePlace}
-use Rattle.ir_core.specs.Tokens.{HasTokens, AreWithin, IsWithin}
+use Rattle.ir_core.specs.Tokens.{HasTokens, IsWithin}
 use Rattle.ir_core.specs.Lines.{IsDropped}
 use Rattle.ir_parse_top.specs.Text.{Line, moved, all_moved}
 use Rattle.ir_parse_top.specs.Reading.{Left, lines_left, Takes, AddsTokens, Goes, IsPassed, Passes, FindsText, FindsNothing}

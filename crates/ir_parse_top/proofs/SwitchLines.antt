@@ -1,25 +1,25 @@
 -- A `switch` that goes on over further lines: what its tokens stand for, or the first line that can't be read.
-use Rattle.std.specs.Prelude.{slice_get, codes}
+use Rattle.std.specs.Prelude.{codes}
 use Rattle.std.specs.List.{list_any}
-use Rattle.std.proofs.Common.{◌≡◌, ℕ, ◌+◌, ◌≤◌, ◌<◌, ◌⊎◌, inl, inr, Bool, true, false, List, [], ◌∷◌, ◌++◌, length, leb, Option, None, ap, refl, sym, subst, ◌∙◌, arith}
+use Rattle.std.proofs.Common.{◌≡◌, ℕ, ◌+◌, ◌≤◌, ◌<◌, inl, inr, Bool, true, false, List, [], ◌∷◌, ◌++◌, length, leb, Option, ap, refl, sym, subst, ◌∙◌, arith}
 use Rattle.std.proofs.lemmas.Bool.{false≢true, leb-true, leb-false}
-use Rattle.std.proofs.lemmas.List.{append-nil, append_assoc, length-append, length-map}
+use Rattle.std.proofs.lemmas.List.{append-nil, append_assoc, length-append}
 use Rattle.std.proofs.lemmas.Option.{slice_get_past}
 use Rattle.ir_core.specs.declared.text.Token.{Token}
 use Rattle.ir_core.specs.declared.text.LinePlace.TheVariants.{Function}
 use Rattle.ir_core.specs.declared.types.Loc.{Loc}
 use Rattle.ir_core.specs.Module.{ModuleParts, FuncParts}
-use Rattle.ir_core.specs.Tokens.{HasTokens, HasBadColumn}
+use Rattle.ir_core.specs.Tokens.{HasTokens}
 use Rattle.ir_grammar.specs.declared.trees.BodyLine.{BodyLine}
 use Rattle.ir_grammar.specs.Parts.{Tok}
 use Rattle.ir_grammar.specs.Fitting.{IsLine, IsUnfit}
-use Rattle.ir_grammar.specs.Tokens.{token_of, tokens_of, is_punct, close_bracket}
+use Rattle.ir_grammar.specs.Tokens.{tokens_of, is_punct, close_bracket}
 use Rattle.ir_grammar.specs.Top.{body_line}
 use Rattle.ir_parse_top.specs.declared.switches.Pause.{Pause}
 use Rattle.ir_parse_top.specs.declared.switches.Pause.TheVariants.{Closed, AtColumn, AtEnd}
 use Rattle.ir_parse_top.specs.Sheet.{Sheet, Inside, with_body}
-use Rattle.ir_parse_top.specs.Text.{Line, all_moved, is_unclosed, HasText, Said, Fault, BadWord, BadByte, text_or_end, word_at, CantStand, Stops, AtByte, AtWord, Run, Trips}
-use Rattle.ir_parse_top.specs.Reading.{Left, lines_left, closes, Goes, Grows, Pauses, Gathers, Blames, Early, Late, Whole, fault_at, taken, count_until, FindsText, FindsBody, TripsInside}
+use Rattle.ir_parse_top.specs.Text.{Line, all_moved, is_unclosed, HasText, Said, Fault, BadWord, text_or_end, word_at, Stops, AtByte, AtWord, Run, Trips}
+use Rattle.ir_parse_top.specs.Reading.{Left, lines_left, closes, Grows, Pauses, Gathers, Blames, Early, Late, Whole, fault_at, taken, count_until, FindsText, FindsBody, TripsInside}
 use Rattle.ir_parse_top.proofs.PassedLines.{goes_on}
 use Rattle.ir_parse_top.proofs.Runs.{run_append, run_one, trips_append, trips_here, text_leads, text_trips}
 use Rattle.ir_parse_top.proofs.Unclosed.{any_right, closed_by, nothing_unclosed}

@@ -1,14 +1,13 @@
 -- The lines of a whole text.
-use Rattle.std.proofs.Common.{◌≡◌, ℕ, ◌+◌, List, [], ◌∷◌, ◌++◌, length, ap, refl, sym, subst, ◌∙◌}
-use Rattle.std.proofs.lemmas.List.{append-nil}
+use Rattle.std.proofs.Common.{◌≡◌, ℕ, List, [], ◌∷◌, ◌++◌, refl, sym, subst}
 use Rattle.ir_core.specs.Module.{ModuleParts, FuncParts}
 use Rattle.ir_core.specs.declared.text.LinePlace.TheVariants.{Top}
 use Rattle.ir_grammar.specs.declared.trees.TopLine.{TopLine}
 use Rattle.ir_grammar.specs.declared.trees.TopLine.TheVariants as tops
 use Rattle.ir_grammar.specs.declared.trees.Head.{Head}
-use Rattle.ir_parse_top.specs.Sheet.{Sheet, Outside, Inside, with_top, headed, entry_of}
-use Rattle.ir_parse_top.specs.Text.{Line, Fault, Run, Trips}
-use Rattle.ir_parse_top.specs.Reading.{Left, lines_left, Goes, FindsTop, FindsEnd, FindsNothing, Follows, FindsAll, TripsFrom, TripsOutside, TripsIn}
+use Rattle.ir_parse_top.specs.Sheet.{Outside, with_top, headed, entry_of}
+use Rattle.ir_parse_top.specs.Text.{Line, Fault, Run}
+use Rattle.ir_parse_top.specs.Reading.{Left, lines_left, Goes, FindsTop, FindsEnd, FindsNothing, Follows, FindsAll, TripsFrom, TripsOutside}
 use Rattle.ir_parse_top.proofs.PassedLines.{goes_none, goes_on}
 use Rattle.ir_parse_top.proofs.Runs.{run_append, run_passed}
 use Rattle.ir_parse_top.proofs.FunctionLines.{run_on, trips_later}

@@ -1,26 +1,22 @@
 -- Tokens that begin a `switch` and its brackets and don't close them: with more tokens, and why they stand for no line.
 use Rattle.std.specs.Prelude.{◌&&◌, ◌||◌, not, codes}
 use Rattle.std.specs.List.{list_any}
-use Rattle.std.specs.Str.{bytes_eq}
-use Rattle.std.proofs.Common.{◌≡◌, ℕ, ◌⊎◌, inl, inr, Bool, true, false, List, [], ◌∷◌, ◌++◌, Option, Some, None, ap, refl, sym, subst, ◌∙◌}
+use Rattle.std.proofs.Common.{◌≡◌, ℕ, inl, inr, Bool, true, false, List, [], ◌∷◌, ◌++◌, Option, Some, None, ap, refl, sym, subst, ◌∙◌}
 use Rattle.std.proofs.lemmas.Bool.{false≢true}
-use Rattle.std.proofs.lemmas.List.{map-append}
 use Rattle.std.proofs.lemmas.List.Folds.{list_any-append}
 use Rattle.ir_core.specs.declared.types.Width.{Width}
 use Rattle.ir_core.specs.declared.types.Loc.{Loc}
-use Rattle.ir_core.specs.declared.text.Token.{Token}
 use Rattle.ir_core.specs.declared.instruction.Inst.{Inst}
 use Rattle.ir_grammar.specs.declared.trees.BodyLine.{BodyLine}
 use Rattle.ir_grammar.specs.declared.heads.PlainOpcode.{PlainOpcode}
 use Rattle.ir_grammar.specs.declared.heads.PlainOpcode.TheVariants as plain
-use Rattle.ir_grammar.specs.Parts.{Tok, Splits, IsOne, heads, ◌>>=◌}
-use Rattle.ir_grammar.specs.Tokens.{token_of, tokens_of, is_word, is_punct, known, punct, local_of, open_bracket, close_bracket, close_brace}
+use Rattle.ir_grammar.specs.Parts.{Tok, Splits, IsOne, heads}
+use Rattle.ir_grammar.specs.Tokens.{is_word, is_punct, known, local_of, open_bracket, close_bracket, close_brace}
 use Rattle.ir_grammar.specs.Words.{in_table, plain_opcode_word}
-use Rattle.ir_grammar.specs.Lines.{switching, switch_cases, more_cases, comma_label, line_without, plain_line, result_line, instruction}
+use Rattle.ir_grammar.specs.Lines.{switching, switch_cases, line_without, plain_line, result_line, instruction}
 use Rattle.ir_grammar.specs.Top.{label_of, body_line}
 use Rattle.ir_grammar.proofs.Refusals.{word_token, named_word}
 use Rattle.ir_parse_top.specs.Text.{is_unclosed}
-use Rattle.ir_parse_top.specs.Reading.{closes}
 
 -- ---- tests over more tokens
 

@@ -1,7 +1,7 @@
 -- Unfit tokens of a list and of its fronts.
-use Rattle.std.proofs.Common.{◌≡◌, ℕ, ◌+◌, ◌≤◌, ◌<◌, ◌⊎◌, inl, inr, List, [], ◌∷◌, ◌++◌, length, ap, refl, sym, subst, ◌∙◌, arith}
+use Rattle.std.proofs.Common.{◌≡◌, ℕ, ◌+◌, ◌≤◌, ◌<◌, List, [], ◌∷◌, ◌++◌, length, ap, refl, sym, subst, ◌∙◌, arith}
 use Rattle.std.proofs.lemmas.List.{append-nil, append_assoc, length-append}
-use Rattle.ir_grammar.specs.Parts.{Tok, Begins}
+use Rattle.ir_grammar.specs.Parts.{Tok}
 use Rattle.ir_grammar.specs.Fitting.{IsLine, Fits, IsUnfit}
 use Rattle.ir_grammar.proofs.Fronts.{shallow_before}
 use Rattle.ir_parse_top.proofs.PassedLines.{cons_isnt_nil}

@@ -3,7 +3,7 @@
 -- A name is told by the place in the text where it begins. Names that no line writes stand behind the text, where
 -- numerals are: they are the names of parameters that have none, and of entry blocks without a label
 -- (LLVM Language Reference, 'Identifiers', 'Functions').
-use Rattle.std.specs.Prelude.{ℕ, zero, suc, ◌+◌, ◌-◌, ◌*◌, Bool, true, false, List, [], ◌∷◌, ◌++◌, length, replicate, Option, Some, None, if◌then◌else◌}
+use Rattle.std.specs.Prelude.{ℕ, zero, suc, ◌+◌, ◌-◌, ◌*◌, List, [], ◌∷◌, ◌++◌, length, replicate, Option, Some, None, if◌then◌else◌}
 use Rattle.std.specs.Fmt.{decimal}
 use Rattle.ir_core.specs.declared.text.Token.{Token}
 use Rattle.ir_core.specs.declared.types.Loc.{Loc}

@@ -4,7 +4,7 @@
 -- Lines are read one after another. A line that is dropped at its place, or has no token, says nothing. Any
 -- other one says what its tokens stand for outside or inside functions. A `switch` may go over several lines: its tokens
 -- are those of all its lines.
-use Rattle.std.specs.Prelude.{ℕ, ◌≡◌, ◌⊎◌, ◌+◌, ◌<◌, ◌&&◌, not, Bool, true, false, List, [], ◌∷◌, ◌++◌, length, map, codes, slice_get, max, fold, Option, Some, None}
+use Rattle.std.specs.Prelude.{ℕ, ◌≡◌, ◌⊎◌, ◌+◌, ◌&&◌, not, Bool, true, false, List, [], ◌∷◌, ◌++◌, length, map, codes, slice_get, max, fold, Option, Some, None}
 use Rattle.std.specs.List.{list_any}
 use Rattle.ir_core.specs.declared.text.Token.{Token}
 use Rattle.ir_core.specs.declared.text.LinePlace.{LinePlace}

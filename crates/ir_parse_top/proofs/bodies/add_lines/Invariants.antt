@@ -1,4 +1,4 @@
-use Rattle.std.proofs.Common.{◌≡◌, length}
+use Rattle.std.proofs.Common.{length}
 use Rattle.ir_parse_top.specs.Reading.{lines_left}
 use Rattle.ir_parse_top.proofs.FunctionLines.{InFunction}
 use Rattle.ir_parse_top.proofs.bodies.add_lines.Given as goal

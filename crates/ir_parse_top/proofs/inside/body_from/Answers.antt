@@ -1,4 +1,4 @@
-use Rattle.std.proofs.Common.{◌≡◌, ◌∙◌, ℕ, List, Bool, false, ap, sym}
+use Rattle.std.proofs.Common.{◌≡◌, ◌∙◌, ℕ, List, false, ap, sym}
 use Rattle.ir_core.specs.declared.text.Token.{Token}
 use Rattle.ir_grammar.specs.Fitting.{IsLine}
 use Rattle.ir_grammar.specs.Tokens.{tokens_of}

@@ -1,11 +1,10 @@
-use Rattle.std.proofs.Common.{◌≡◌, ℕ, ◌+◌, ◌<◌, ◌∙◌, List, length, ap, sym, subst, arith}
-use Rattle.ir_core.specs.declared.text.Token.{Token}
+use Rattle.std.proofs.Common.{◌≡◌}
 use Rattle.ir_grammar.specs.declared.trees.BodyLine.{BodyLine}
 use Rattle.ir_grammar.specs.Fitting.{IsLine}
 use Rattle.ir_grammar.specs.Tokens.{tokens_of}
 use Rattle.ir_grammar.specs.Top.{body_line}
 use Rattle.ir_parse_top.specs.declared.switches.Pause.TheVariants.{Closed}
-use Rattle.ir_parse_top.specs.Reading.{Blames, FindsBody, TripsInside, taken}
+use Rattle.ir_parse_top.specs.Reading.{Blames, FindsBody, TripsInside}
 use Rattle.ir_parse_top.proofs.Telling.{ok_map, err_map}
 use Rattle.ir_parse_top.proofs.SwitchLines.{small_enough, found_by, trips_by}
 use Rattle.ir_parse_top.proofs.inside.switch_of.Goals as goal

@@ -1,5 +1,5 @@
 use Rattle.std.specs.Prelude.{Option, IfSome}
-use Rattle.std.proofs.Common.{◌≡◌, ℕ, ◌∙◌, refl, sym, subst}
+use Rattle.std.proofs.Common.{ℕ, refl, subst}
 use Rattle.std.proofs.lemmas.Result.{err_from_is_err_and}
 use Rattle.ir_core.specs.declared.text.LinePlace.TheVariants.{Top}
 use Rattle.ir_parse_top.specs.Sheet.{Outside}

@@ -1,4 +1,4 @@
-use Rattle.std.proofs.Common.{◌≡◌, ℕ, ◌+◌, ◌-◌, [], length}
+use Rattle.std.proofs.Common.{◌≡◌, ◌+◌, ◌-◌, [], length}
 use Rattle.ir_parse_top.specs.Reading.{Passes}
 use Rattle.ir_parse_top.proofs.passing.next_text.Given as goal
 

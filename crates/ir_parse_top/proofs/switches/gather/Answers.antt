@@ -1,5 +1,5 @@
 use Rattle.std.specs.Prelude.{Option, IfSome, IfNone}
-use Rattle.std.proofs.Common.{◌≡◌, ◌∙◌, List, ◌++◌, ◌∷◌, [], ℕ, length, ap, subst}
+use Rattle.std.proofs.Common.{◌∙◌, ◌++◌, ◌∷◌, [], ℕ, length, ap, subst}
 use Rattle.ir_parse_top.specs.declared.switches.Pause.{Pause}
 use Rattle.ir_parse_top.specs.Reading.{ComesTo, GrowsBy}
 use Rattle.ir_parse_top.proofs.Gathering.{gathered_more, gathers, smaller}

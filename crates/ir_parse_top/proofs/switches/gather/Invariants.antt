@@ -1,4 +1,4 @@
-use Rattle.std.proofs.Common.{◌≡◌, ℕ, ◌+◌, ◌-◌, List, length}
+use Rattle.std.proofs.Common.{◌+◌, ◌-◌, length}
 use Rattle.ir_parse_top.proofs.Gathering.{Gathered}
 use Rattle.ir_parse_top.proofs.switches.gather.Given as goal
 

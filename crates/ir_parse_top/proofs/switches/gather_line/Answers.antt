@@ -1,10 +1,5 @@
-use Rattle.std.proofs.Common.{◌≡◌, ◌∙◌, ℕ, List, ◌++◌, length, ap, sym, subst, Err, Bool, true, false}
-use Rattle.ir_core.specs.declared.text.Token.{Token}
-use Rattle.ir_core.specs.Tokens.{AreWithin}
-use Rattle.ir_parse_top.specs.Text.{all_moved}
-use Rattle.ir_parse_top.specs.declared.switches.Pause.TheVariants.{AtColumn}
-use Rattle.ir_parse_top.specs.Reading.{ComesTo}
-use Rattle.ir_parse_top.proofs.Gathering.{new_tokens, own_within, grows_by, comes_to_closed, comes_to_column, comes_to_end, slice_within, slice_closes}
+use Rattle.std.proofs.Common.{◌∙◌, ap, sym, Err, true, false}
+use Rattle.ir_parse_top.proofs.Gathering.{grows_by, comes_to_closed, comes_to_column, comes_to_end, slice_within, slice_closes}
 use Rattle.ir_parse_top.proofs.switches.gather_line.Goals as goal
 
 pub returns-in_default-clause-over : goal.returns-in_default-clause-over

@@ -1,13 +1,7 @@
-use Rattle.std.proofs.Common.{◌≡◌, ℕ, ◌+◌, ◌≤◌, ◌<◌, ◌⊎◌, inl, inr, ◌∙◌, Err, length, ap, refl, sym, subst, arith}
-use Rattle.std.proofs.lemmas.List.{length-map}
-use Rattle.ir_grammar.specs.Tokens.{token_of, tokens_of}
-use Rattle.ir_grammar.specs.Top.{body_line}
-use Rattle.ir_parse_top.specs.declared.switches.Pause.{Pause}
-use Rattle.ir_parse_top.specs.declared.switches.Pause.TheVariants.{Closed, AtColumn, AtEnd}
+use Rattle.std.proofs.Common.{ℕ, ◌+◌, ◌∙◌, Err, length, ap}
 use Rattle.ir_parse_top.specs.Text.{word_at}
 use Rattle.ir_parse_top.specs.Reading.{IsAt, Blames, Early, Late, Whole, fault_at}
 use Rattle.ir_parse_top.proofs.Telling.{told_map}
-use Rattle.ir_parse_top.proofs.Unfit.{place_at_end}
 use Rattle.ir_parse_top.proofs.Gathering.{not_closed, all_fit}
 use Rattle.ir_parse_top.proofs.switches.judge.Goals as goal
 

@@ -1,4 +1,4 @@
-use Rattle.std.proofs.Common.{◌≡◌, length}
+use Rattle.std.proofs.Common.{length}
 use Rattle.ir_parse_top.specs.Reading.{lines_left}
 use Rattle.ir_parse_top.proofs.TreeLines.{InModule}
 use Rattle.ir_parse_top.proofs.whole.add_all.Given as goal

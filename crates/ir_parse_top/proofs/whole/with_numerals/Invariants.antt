@@ -1,4 +1,4 @@
-use Rattle.std.proofs.Common.{◌≡◌, ◌-◌, ◌++◌, ◌∷◌}
+use Rattle.std.proofs.Common.{◌≡◌, ◌-◌, ◌++◌}
 use Rattle.ir_parse_top.specs.Sheet.{numerals, with_numerals}
 use Rattle.ir_parse_top.proofs.whole.with_numerals.Given as goal
 
