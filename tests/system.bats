@@ -61,24 +61,47 @@ sums() {
     }'
 }
 
-# short_sums COUNT writes a text of COUNT sums in the shortest lines, for the most instructions in a file.
+# short_sums COUNT writes a text of COUNT sums in short lines, for the most instructions in a file.
 short_sums() {
     awk -v count="$1" 'BEGIN {
         digits = "0123456789"; letters = "ABCDEFGHIJKLMNOPQRSTUVWXYZabcdefghijklmnopqrstuvwxyz"; all = letters digits
-        print "declare void @haft_out(i64)\ndefine i32 @main() {"
+        print "define i32@main(){"
         for (k = 0; k < count; k++) {
-            name = substr(letters, int(k / 3844) + 1, 1) substr(all, int(k / 62) % 62 + 1, 1) substr(all, k % 62 + 1, 1)
-            print "  %" name " = add i64 0, 0"
+            name = substr(letters, int(k / 238328) + 1, 1) substr(all, int(k / 3844) % 62 + 1, 1) \
+                substr(all, int(k / 62) % 62 + 1, 1) substr(all, k % 62 + 1, 1)
+            print "%" name "=add i1 0,0"
         }
-        print "  ret i32 0\n}"
+        print "ret i32 0\n}"
     }'
 }
 
-# constants COUNT writes a text of COUNT outputs of 1.
+# constants COUNT writes a text of COUNT outputs of 1, in short lines.
 constants() {
     printf 'declare void @haft_out(i64)\ndefine i32 @main() {\n'
-    yes '  call void @haft_out(i64 1)' | head -n "$1"
-    printf '  ret i32 0\n}\n'
+    yes 'call void@haft_out(i64 1)' | head -n "$1"
+    printf 'ret i32 0\n}\n'
+}
+
+# Texts of many short parts that aren't built.
+many_functions() { seq -f 'define i8@f%.0f(){
+}' 186000; }
+
+many_labels() {
+    echo 'define i32@main(){'
+    seq -f 'b%.0f:' 475000
+    echo '}'
+}
+
+many_returns() {
+    echo 'define i32@main(){'
+    yes 'ret i8 0' | head -n 466000
+    echo '}'
+}
+
+many_bits() {
+    printf '@a=global[838001 x i1]['
+    yes 'i1 0,' | head -n 838000 | tr -d '\n'
+    echo 'i1 0]'
 }
 
 @test "each folder of cases/ has the answer that stands in it" {
@@ -163,12 +186,12 @@ constants() {
     answered_lines 1 "refused text $((2 + 127000 + 2 + 1)) end"
 }
 
-@test "a text of nearly 4 MiB with 144,000 outputs writes them all within 20 seconds" {
-    constants 144000 >first
+@test "a text of nearly 4 MiB with 161,000 outputs writes them all within 20 seconds" {
+    constants 161000 >first
     [ "$(size_of first)" -le $greatest_size ]
-    echo "turn 0 144002" >second
+    echo "turn 0 161002" >second
     answer run first second
-    { yes "out 1" | head -n 144000; printf 'aborts 0 0 0 0\nstop end 0\nsrc 0*144002\n'; } >wanted_report
+    { yes "out 1" | head -n 161000; printf 'aborts 0 0 0 0\nstop end 0\nsrc 0*161002\n'; } >wanted_report
     answered 0 wanted_report
 }
 
@@ -189,12 +212,12 @@ constants() {
     answered 0 wanted_report
 }
 
-@test "a text of nearly 4 MiB with 190,000 sums runs to its end within 20 seconds" {
-    short_sums 190000 >first
+@test "a text of nearly 4 MiB with 246,000 sums runs to its end within 20 seconds" {
+    short_sums 246000 >first
     [ "$(size_of first)" -le $greatest_size ]
-    echo "turn 0 $((2 * 190000 + 2))" >second
+    echo "turn 0 $((2 * 246000 + 2))" >second
     answer run first second
-    answered_lines 0 "aborts 0 0 0 0" "stop end 0" "src 0*190002"
+    answered_lines 0 "aborts 0 0 0 0" "stop end 0" "src 0*246002"
 }
 
 # Memory takes no more than address space does; of this, 64 MiB are for the program itself.
@@ -206,14 +229,28 @@ constants() {
     answer run first second
     answered_lines 0 "out 127000" "aborts 0 0 0 0" "stop end 9" "src 0*127003"
 
-    short_sums 190000 >first
+    short_sums 246000 >first
     answer run first second
-    answered_lines 0 "aborts 0 0 0 0" "stop end 0" "src 0*190002"
+    answered_lines 0 "aborts 0 0 0 0" "stop end 0" "src 0*246002"
 
-    constants 144000 >first
+    constants 161000 >first
     answer run first second
-    { yes "out 1" | head -n 144000; printf 'aborts 0 0 0 0\nstop end 0\nsrc 0*144002\n'; } >wanted_report
+    { yes "out 1" | head -n 161000; printf 'aborts 0 0 0 0\nstop end 0\nsrc 0*161002\n'; } >wanted_report
     answered 0 wanted_report
+}
+
+@test "texts of 4 MiB that aren't built are refused within the same memory" {
+    memory=$((100 * greatest_size / 1024 + 64 * 1024))
+    echo "turn 0 1" >second
+    local parts
+    for parts in functions labels returns bits; do
+        echo "$parts"
+        "many_$parts" >first
+        [ "$(size_of first)" -gt $((greatest_size - 60000)) ]
+        [ "$(size_of first)" -le $greatest_size ]
+        answer run first second
+        answered_lines 1 "refused unbuilt first"
+    done
 }
 
 @test "where memory is short the answer is status 5 with nothing written, and never a part of the report" {
