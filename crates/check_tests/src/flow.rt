@@ -42,11 +42,15 @@ fn ret(val: Val) -> Inst {
 fn diamond(rt: &impl Abort, alloc: Global) -> Func {
     let mut f = Func::new(alloc, Sym(0), Ty::Int(Width::W32));
     f.add_block(Loc(10)).expect(rt, "no memory");
-    add(rt, &mut f, Inst::CondBr {
-        cond: Val::Int(1),
-        yes: Loc(11),
-        no: Loc(12),
-    });
+    add(
+        rt,
+        &mut f,
+        Inst::CondBr {
+            cond: Val::Int(1),
+            yes: Loc(11),
+            no: Loc(12),
+        },
+    );
     f.add_block(Loc(11)).expect(rt, "no memory");
     add(rt, &mut f, sum(3, Val::Int(1)));
     add(rt, &mut f, Inst::Br { to: Loc(12) });
@@ -79,18 +83,27 @@ fn loops_and_phis(rt: HostRuntime) {
     f.add_block(Loc(11)).expect(&rt, "no memory");
     let mut arms = Seq::new(alloc);
     arms.push((Val::Int(0), Loc(10))).expect(&rt, "no memory");
-    arms.push((Val::Reg(Loc(2)), Loc(11))).expect(&rt, "no memory");
-    add(&rt, &mut f, Inst::Phi {
-        dst: Loc(1),
-        ty: Ty::Int(Width::W32),
-        arms,
-    });
+    arms.push((Val::Reg(Loc(2)), Loc(11)))
+        .expect(&rt, "no memory");
+    add(
+        &rt,
+        &mut f,
+        Inst::Phi {
+            dst: Loc(1),
+            ty: Ty::Int(Width::W32),
+            arms,
+        },
+    );
     add(&rt, &mut f, sum(2, Val::Reg(Loc(1))));
-    add(&rt, &mut f, Inst::CondBr {
-        cond: Val::Int(0),
-        yes: Loc(11),
-        no: Loc(12),
-    });
+    add(
+        &rt,
+        &mut f,
+        Inst::CondBr {
+            cond: Val::Int(0),
+            yes: Loc(11),
+            no: Loc(12),
+        },
+    );
     f.add_block(Loc(12)).expect(&rt, "no memory");
     add(&rt, &mut f, ret(Val::Reg(Loc(2))));
     // a block that no path reaches has no fault
@@ -113,11 +126,15 @@ fn a_phi_names_its_predecessors(rt: HostRuntime) {
     f.add_block(Loc(11)).expect(&rt, "no memory");
     let mut arms = Seq::new(alloc);
     arms.push((Val::Int(0), Loc(12))).expect(&rt, "no memory");
-    add(&rt, &mut f, Inst::Phi {
-        dst: Loc(1),
-        ty: Ty::Int(Width::W32),
-        arms,
-    });
+    add(
+        &rt,
+        &mut f,
+        Inst::Phi {
+            dst: Loc(1),
+            ty: Ty::Int(Width::W32),
+            arms,
+        },
+    );
     add(&rt, &mut f, ret(Val::Int(0)));
     f.add_block(Loc(12)).expect(&rt, "no memory");
     add(&rt, &mut f, Inst::Unreachable);

@@ -64,13 +64,21 @@ fn structs_have_padding(rt: HostRuntime) {
     // i8 at 0, i32 at 4, i8 at 8: 9 bytes, and 12
     let narrow = ints(&rt, alloc, &[Width::W8, Width::W32, Width::W8]);
     let empty = ints(&rt, alloc, &[]);
-    assert!(rt; l.limit(&wide).is_none() && l.limit(&narrow).is_none() && l.limit(&empty).is_none());
+    assert!(rt;
+        l.limit(&wide).is_none() && l.limit(&narrow).is_none() && l.limit(&empty).is_none()
+    );
     assert_eq!(rt; l.offset(&wide, &[(Width::W64, 1)]), Some(24));
     assert_eq!(rt; l.offset(&narrow, &[(Width::W64, 3)]), Some(36));
     assert_eq!(rt; l.offset(&empty, &[(Width::W64, 3)]), Some(0));
     // fields, by an i32 alone and in range
-    assert_eq!(rt; l.offset(&wide, &[(Width::W64, 0), (Width::W32, 2)]), Some(16));
-    assert_eq!(rt; l.offset(&wide, &[(Width::W64, 2), (Width::W32, 1)]), Some(56));
+    assert_eq!(rt;
+        l.offset(&wide, &[(Width::W64, 0), (Width::W32, 2)]),
+        Some(16)
+    );
+    assert_eq!(rt;
+        l.offset(&wide, &[(Width::W64, 2), (Width::W32, 1)]),
+        Some(56)
+    );
     assert_eq!(rt; l.offset(&wide, &[(Width::W64, 0), (Width::W64, 1)]), None);
     assert_eq!(rt; l.offset(&wide, &[(Width::W64, 0), (Width::W32, 3)]), None);
     // indices are signed: -1 of i64 and of i8
@@ -78,7 +86,10 @@ fn structs_have_padding(rt: HostRuntime) {
     assert_eq!(rt; l.offset(&wide, &[(Width::W64, u64::MAX)]), Some(back));
     assert_eq!(rt; l.offset(&wide, &[(Width::W8, 255)]), Some(back));
     let rows = array(&rt, alloc, 2, narrow);
-    assert_eq!(rt; l.offset(&rows, &[(Width::W64, 0), (Width::W64, 5), (Width::W32, 1)]), Some(64));
+    assert_eq!(rt;
+        l.offset(&rows, &[(Width::W64, 0), (Width::W64, 5), (Width::W32, 1)]),
+        Some(64)
+    );
     assert_eq!(rt; l.offset(&rows, &[(Width::W64, 1)]), Some(24));
     drop(wide);
     drop(empty);
@@ -96,7 +107,10 @@ fn types_keep_their_limits(rt: HostRuntime) {
     m.add_type(TypeId(1), pair).expect(&rt, "no memory");
     assert!(rt; types_known(&m));
     let l = laid(&rt, alloc, &m);
-    assert_eq!(rt; l.offset(&Ty::Named(TypeId(0)), &[(Width::W64, 3)]), Some(48));
+    assert_eq!(rt;
+        l.offset(&Ty::Named(TypeId(0)), &[(Width::W64, 3)]),
+        Some(48)
+    );
     let mut deep = Ty::Ptr;
     for _level in 0..16_u32 {
         deep = nested(&rt, alloc, deep);
@@ -132,7 +146,9 @@ fn a_struct_that_holds_itself_is_refused(rt: HostRuntime) {
     }
     let mut unknown = Module::new(alloc);
     let lacking = nested(&rt, alloc, Ty::Named(TypeId(7)));
-    unknown.add_type(TypeId(0), lacking).expect(&rt, "no memory");
+    unknown
+        .add_type(TypeId(0), lacking)
+        .expect(&rt, "no memory");
     assert!(rt; !types_known(&unknown));
 }
 

@@ -1,8 +1,7 @@
 //! Texts cut into lines, lines cut into tokens or dropped, and what strings stand for.
 use ir_lex::TokKind::{At, Bang, Bytes, Hash, Label, Local, Num, Punct, Str, Word};
 use ir_lex::{
-    LinePlace, TokKind, is_dropped, lex_line, lines_law, name_from, split_line,
-    string_bytes,
+    LinePlace, TokKind, is_dropped, lex_line, lines_law, name_from, split_line, string_bytes,
 };
 use std::alloc::Global;
 use std::process::Abort;

@@ -19,9 +19,11 @@ returns-in-Ok-clause-run c = λ s schedule free.
 
 pub returns-in-Err-Refused-clause-work : goal.returns-in-Err-Refused-clause-work
 returns-in-Err-Refused-clause-work c = λ first within text.
-    c.refused.ensures.work (Some first) (Some c.args.second.now)
-      ((for_some IsWithin first within, for_some IsWithin c.args.second.now c.requires.within), for_some IsBuiltText first (c.args.m.now, text, c.requires.built),
-        for_some (λ bytes. UnfitLine bytes c.in-Err-Refused.line) c.args.second.now (c.in-Err-Refused.ensures.unfit c.in-Err-Refused.line (ap Err c.in-Err-Refused.field-0-is)))
+    c.refused.ensures.work (Some first) (Some c.args.second.now) (
+      (for_some IsWithin first within, for_some IsWithin c.args.second.now c.requires.within),
+      for_some IsBuiltText first (c.args.m.now, text, c.requires.built),
+      for_some (λ bytes. UnfitLine bytes c.in-Err-Refused.line) c.args.second.now (c.in-Err-Refused.ensures.unfit c.in-Err-Refused.line (ap Err c.in-Err-Refused.field-0-is)),
+    )
 
 pub returns-in-Err-Refused-clause-run : goal.returns-in-Err-Refused-clause-run
 returns-in-Err-Refused-clause-run c = λ s schedule free.

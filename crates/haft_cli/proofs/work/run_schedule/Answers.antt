@@ -11,7 +11,7 @@ use Rattle.haft_cli.proofs.work.run_schedule.Goals as goal
 pub returns-then-not-upset_free-clause-work : goal.returns-then-not-upset_free-clause-work
 returns-then-not-upset_free-clause-work c = λ first second first_within second_within text schedule.
     c.refused.ensures.work (Some first) (Some second)
-      ((for_some IsWithin first first_within, for_some IsWithin second second_within), for_some IsBuiltText first (c.args.m.now, text, c.requires.built), for_some HasUpset second (c.args.s.now, schedule, iff_false c.upset_free.ensures c.if-not-upset_free.true))
+    ((for_some IsWithin first first_within, for_some IsWithin second second_within), for_some IsBuiltText first (c.args.m.now, text, c.requires.built), for_some HasUpset second (c.args.s.now, schedule, iff_false c.upset_free.ensures c.if-not-upset_free.true))
 
 pub returns-clause-work : goal.returns-clause-work
 returns-clause-work c = λ first second first_within second_within text schedule.

@@ -13,4 +13,4 @@ returns-then-built-clause-run c = λ s built schedule free. c.run_built.ensures.
 pub returns-else-built-clause-work : goal.returns-else-built-clause-work
 returns-else-built-clause-work c = λ first within text.
     c.refused.ensures.work (Some first) (Some c.args.second.now)
-      ((for_some IsWithin first within, for_some IsWithin c.args.second.now c.requires), for_some IsUnbuiltText first (c.args.m.now, text, iff_false c.built.ensures.exact c.if-built.false))
+    ((for_some IsWithin first within, for_some IsWithin c.args.second.now c.requires), for_some IsUnbuiltText first (c.args.m.now, text, iff_false c.built.ensures.exact c.if-built.false))

@@ -15,9 +15,10 @@ returns-in-Ok-clause-run c = λ m s runs.
 
 pub returns-in-Err-Refused-clause-work : goal.returns-in-Err-Refused-clause-work
 returns-in-Err-Refused-clause-work c =
-    c.refused.ensures.work (Some c.args.first.now) (Some c.args.second.now)
-      ((for_some IsWithin c.args.first.now c.requires.first_within, for_some IsWithin c.args.second.now c.requires.second_within),
-        for_some (λ text. Unfit text c.in-Err-Refused.line (BadWord c.in-Err-Refused.word)) c.args.first.now (c.in-Err-Refused.ensures.refused c.in-Err-Refused.line c.in-Err-Refused.word (ap Err c.in-Err-Refused.field-0-is)))
+    c.refused.ensures.work (Some c.args.first.now) (Some c.args.second.now) (
+      (for_some IsWithin c.args.first.now c.requires.first_within, for_some IsWithin c.args.second.now c.requires.second_within),
+      for_some (λ text. Unfit text c.in-Err-Refused.line (BadWord c.in-Err-Refused.word)) c.args.first.now (c.in-Err-Refused.ensures.refused c.in-Err-Refused.line c.in-Err-Refused.word (ap Err c.in-Err-Refused.field-0-is)),
+    )
 
 pub returns-in-Err-Refused-clause-run : goal.returns-in-Err-Refused-clause-run
 returns-in-Err-Refused-clause-run c = λ m s runs.
@@ -25,9 +26,10 @@ returns-in-Err-Refused-clause-run c = λ m s runs.
 
 pub returns-in-Err-BadByte-clause-work : goal.returns-in-Err-BadByte-clause-work
 returns-in-Err-BadByte-clause-work c =
-    c.refused-in-Err-BadByte.ensures.work (Some c.args.first.now) (Some c.args.second.now)
-      ((for_some IsWithin c.args.first.now c.requires.first_within, for_some IsWithin c.args.second.now c.requires.second_within),
-        for_some (λ text. Unfit text c.in-Err-BadByte.line (BadByte c.in-Err-BadByte.col)) c.args.first.now (c.in-Err-BadByte.ensures.bad_byte c.in-Err-BadByte.line c.in-Err-BadByte.col (ap Err c.in-Err-BadByte.field-0-is)))
+    c.refused-in-Err-BadByte.ensures.work (Some c.args.first.now) (Some c.args.second.now) (
+      (for_some IsWithin c.args.first.now c.requires.first_within, for_some IsWithin c.args.second.now c.requires.second_within),
+      for_some (λ text. Unfit text c.in-Err-BadByte.line (BadByte c.in-Err-BadByte.col)) c.args.first.now (c.in-Err-BadByte.ensures.bad_byte c.in-Err-BadByte.line c.in-Err-BadByte.col (ap Err c.in-Err-BadByte.field-0-is)),
+    )
 
 pub returns-in-Err-BadByte-clause-run : goal.returns-in-Err-BadByte-clause-run
 returns-in-Err-BadByte-clause-run c = λ m s runs.
