@@ -111,6 +111,18 @@ const TEXTS: &[(&str, &str)] = &[
         "line 3: target",
     ),
     (
+        "define void @f(i8 %x) {\n  switch i8 %x, label %a [\n!0 = 1\n",
+        "line 3: !0",
+    ),
+    (
+        "define void @f(i8 %x) {\n  switch i8 %x, label %a [\n  declare void @puts(ptr)\n",
+        "line 3: declare",
+    ),
+    (
+        "define void @f(i8 %x) {\n  switch i8 %x, label %a [\n  call void @llvm.dbg.value()\n",
+        "line 3: call",
+    ),
+    (
         "define void @f(i8 %x) {\n  switch i8 %x, label %a [\n]\n  #dbg_value(?)\n}\n",
         "0 0 0 1 1 1",
     ),
