@@ -94,10 +94,10 @@ fn names_of_functions_are_numbered_by_definition_and_then_by_sight(rt: HostRunti
         let m = module_of(&rt, rt.alloc(), text);
         match m.funcs() {
             [f] => {
-                let mut number = 0;
+                let mut number: u32 = 0;
                 for name in names.split_whitespace() {
                     assert!(rt; has_loc(&rt, f, name, number), "{name} in {text:?}");
-                    number += 1;
+                    number = number.saturating_add(1);
                 }
                 assert!(rt; f.loc_count() == number, "{text:?}");
             }
