@@ -45,7 +45,7 @@ def one_function(size):
     length, count = len(out[0]) + 16, 0
     while True:
         before = "%name" if count == 0 else f"%a.register.{count - 1:06}"
-        text = f"  %a.register.{count:06} = add nsw i64 {before}, 12345678901 ; a comment\n"
+        text = f"  %a.register.{count:06} = add nsw i64 {before}, 12345678901\n"
         if length + len(text) > size:
             break
         out.append(text)
