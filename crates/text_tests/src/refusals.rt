@@ -57,7 +57,7 @@ const TEXTS: &[(&str, &str)] = &[
     ("#dbg_value(1)\n", "line 1, byte 1"),
     ("call void @llvm.dbg.value(ptr null)\n", "line 1: call"),
     (
-        "define void @f() {\ntarget ?\n!0 = ?\ndeclare ? @puts(?)\n  #dbg_value(?)\n  call void @llvm.dbg.value(?)\n\ttail call void @llvm.lifetime.start(?)\n}\n",
+        "define void @f() {\ntarget ?\n!0 = ?\ndeclare ? @puts(?)\ndeclare ? @\"q\"(?)\n  #dbg_value(?)\n  call void @llvm.dbg.value(?)\n\ttail call void @llvm.lifetime.start(?)\n}\n",
         "0 0 0 1 1 0",
     ),
     (
@@ -117,6 +117,10 @@ const TEXTS: &[(&str, &str)] = &[
     (
         "define void @f(i8 %x) {\n  switch i8 %x, label %a [\n  declare void @puts(ptr)\n",
         "line 3: declare",
+    ),
+    (
+        "define void @f(i8 %x) {\n  switch i8 %x, label %a [\n  declare void @\"q\"()\n",
+        "line 3, byte 16",
     ),
     (
         "define void @f(i8 %x) {\n  switch i8 %x, label %a [\n  call void @llvm.dbg.value()\n",
