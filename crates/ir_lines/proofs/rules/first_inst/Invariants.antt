@@ -1,0 +1,6 @@
+use Rattle.std.proofs.Common.{◌≡◌, map, drop}
+use Rattle.ir_lines.specs.Lines.{first_break, inst_lines, block_lines, funcs_lines, GlobalLine, DeclareLine}
+use Rattle.ir_lines.proofs.rules.first_inst.Given as goal
+
+abbrev pub invariant-loop-i : goal.invariant-loop-i
+invariant-loop-i g l = first_break (g.R.Rule.keeps l.rule) (inst_lines l.n l.f l.b l.i (drop l.i l.insts)) ≡ first_break (g.R.Rule.keeps l.rule) (inst_lines l.n l.f l.b 0 l.insts)

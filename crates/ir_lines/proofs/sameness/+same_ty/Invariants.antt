@@ -1,0 +1,6 @@
+use Rattle.std.proofs.Common.{◌≡◌, map, drop, length}
+use Rattle.ir_lines.specs.SameTypes as same
+use Rattle.ir_lines.proofs.sameness.+same_ty.Given as goal
+
+abbrev pub invariant-loop-place : goal.invariant-loop-place
+invariant-loop-place l = same.same_types (drop l.place l.parts) (drop l.place l.others) ≡ same.same_types l.parts l.others
