@@ -3,7 +3,7 @@
 -- Choices: named types come first, then globals, declares and functions; a function's head is followed by its blocks, and a
 -- block by its instructions, phis counted. A rule says of each line whether it keeps it; what a module breaks is
 -- told of its first line that doesn't.
-use Rattle.std.specs.Prelude.{ℕ, ◌+◌, Bool, not, List, [], ◌∷◌, ◌++◌, map, Option, Some, None, find}
+use Rattle.std.specs.Prelude.{ℕ, ◌+◌, Bool, not, List, [], ◌∷◌, ◌++◌, map, Option, None, find}
 use Rattle.std.specs.Option.{option_map, option_or}
 use Rattle.ir_core.specs.declared.types.Ty.{Ty}
 use Rattle.ir_core.specs.declared.types.TypeId.{TypeId}
@@ -39,12 +39,15 @@ abbrev pub inst_lines : ℕ → FuncParts → ℕ → ℕ → List Inst → List
 inst_lines n f b i [] = []
 inst_lines n f b i (inst ∷ insts) = InstLine n f b i inst ∷ inst_lines n f b (i + 1) insts
 
-abbrev pub block_lines : ℕ → FuncParts → ℕ → List Block → List Line
-block_lines n f b [] = []
-block_lines n f b (block ∷ blocks) = BlockLine n f b block ∷ inst_lines n f b 0 block.insts ++ block_lines n f (b + 1) blocks
+abbrev pub block_lines : ℕ → FuncParts → ℕ → Block → List Line
+block_lines n f b block = BlockLine n f b block ∷ inst_lines n f b 0 block.insts
+
+abbrev pub blocks_lines : ℕ → FuncParts → ℕ → List Block → List Line
+blocks_lines n f b [] = []
+blocks_lines n f b (block ∷ blocks) = block_lines n f b block ++ blocks_lines n f (b + 1) blocks
 
 abbrev pub func_lines : ℕ → FuncParts → List Line
-func_lines n f = HeadLine n f ∷ block_lines n f 0 f.blocks
+func_lines n f = HeadLine n f ∷ blocks_lines n f 0 f.blocks
 
 abbrev pub funcs_lines : ℕ → List FuncParts → List Line
 funcs_lines n [] = []

@@ -1,5 +1,5 @@
 -- Whether types are the same: built alike, of the same names (LLVM Language Reference, 'Type System').
-use Rattle.std.specs.Prelude.{ℕ, Bool, true, false, ◌&&◌, List, [], ◌∷◌, map, nat_eq}
+use Rattle.std.specs.Prelude.{Bool, true, false, ◌&&◌, List, [], ◌∷◌, map, nat_eq}
 use Rattle.ir_core.specs.declared.types.Ty.{Ty, fold-Ty}
 use Rattle.ir_core.specs.declared.types.Ty.TheOpen.{Ty-F}
 use Rattle.ir_core.specs.declared.types.Ty.TheViews.{out-Ty}

@@ -1,6 +1,6 @@
 //! Rules on the lines of a module, and the first line that breaks one.
 ghost use Rattle.std.specs.Prelude.{◌≡◌, ◌++◌, Some, map, slice_get};
-ghost use Rattle.ir_lines.specs.Lines.{inst_lines, block_lines, func_lines, funcs_lines, code_lines, GlobalLine, DeclareLine};
+ghost use Rattle.ir_lines.specs.Lines.{inst_lines, block_lines, blocks_lines, func_lines, funcs_lines, code_lines, GlobalLine, DeclareLine};
 ghost use Rattle.ir_lines.specs.Lines as lines;
 
 use crate::Site;
@@ -59,17 +59,24 @@ fn first_inst<R: Rule>(rule: &R, n: usize, f: &Func, b: usize, insts: &[Inst]) -
     None
 }
 
-#[tactic(auto, using(crate::proofs::Breaks::first_break_append))]
-// The first of a function's blocks or instructions that breaks the rule.
+// The first line of a block that breaks the rule.
+fn first_in_block<R: Rule>(rule: &R, n: usize, f: &Func, b: usize, block: &Block) -> Option<Site>
+    requires { slice_get (R.module_of rule.now).funcs n ≡ Some f.now }
+    ensures { result ≡ lines.first_break (R.keeps rule.now) (block_lines n f.now b block.now) }
+{
+    if !rule.block(n, f, b, block) {
+        return Some(Site::Block { func: n, block: b });
+    }
+    first_inst(rule, n, f, b, block.insts.items())
+}
+
+// The first line of a function's blocks that breaks the rule.
 fn first_in_blocks<R: Rule>(rule: &R, n: usize, f: &Func, blocks: &[Block]) -> Option<Site>
     requires { slice_get (R.module_of rule.now).funcs n ≡ Some f.now }
-    ensures { result ≡ lines.first_break (R.keeps rule.now) (block_lines n f.now 0 blocks.now) }
+    ensures { result ≡ lines.first_break (R.keeps rule.now) (blocks_lines n f.now 0 blocks.now) }
 {
     for (b, block) in blocks.iter().enumerate() {
-        if !rule.block(n, f, b, block) {
-            return Some(Site::Block { func: n, block: b });
-        }
-        if let Some(site) = first_inst(rule, n, f, b, block.insts.items()) {
+        if let Some(site) = first_in_block(rule, n, f, b, block) {
             return Some(site);
         }
     }
@@ -87,7 +94,6 @@ fn first_in_func<R: Rule>(rule: &R, n: usize, f: &Func) -> Option<Site>
     first_in_blocks(rule, n, f, f.blocks())
 }
 
-#[tactic(auto, using(crate::proofs::Breaks::first_break_append))]
 // The first line of the functions that breaks the rule.
 fn first_in_funcs<R: Rule>(rule: &R, funcs: &[Func]) -> Option<Site>
     requires { (R.module_of rule.now).funcs ≡ funcs.now }

@@ -9,7 +9,10 @@ pub enum Site {
     /// The line of a global or of a declare, or the head of a function.
     Global(Sym),
     /// The beginning of a block.
-    Block { func: usize, block: usize },
+    Block {
+        func: usize,
+        block: usize,
+    },
     /// An instruction.
     Inst {
         func: usize,

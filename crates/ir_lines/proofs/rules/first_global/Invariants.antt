@@ -1,5 +1,5 @@
 use Rattle.std.proofs.Common.{◌≡◌, map, drop}
-use Rattle.ir_lines.specs.Lines.{first_break, inst_lines, block_lines, funcs_lines, GlobalLine, DeclareLine}
+use Rattle.ir_lines.specs.Lines.{first_break, GlobalLine}
 use Rattle.ir_lines.proofs.rules.first_global.Given as goal
 
 abbrev pub invariant-loop-global : goal.invariant-loop-global

@@ -1,5 +1,5 @@
-use Rattle.std.proofs.Common.{◌≡◌, map, drop}
-use Rattle.ir_lines.specs.Lines.{first_break, inst_lines, block_lines, funcs_lines, GlobalLine, DeclareLine}
+use Rattle.std.proofs.Common.{◌≡◌, drop}
+use Rattle.ir_lines.specs.Lines.{first_break, funcs_lines}
 use Rattle.ir_lines.proofs.rules.first_in_funcs.Given as goal
 
 abbrev pub invariant-loop-n : goal.invariant-loop-n

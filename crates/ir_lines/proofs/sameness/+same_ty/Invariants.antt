@@ -1,4 +1,4 @@
-use Rattle.std.proofs.Common.{◌≡◌, map, drop, length}
+use Rattle.std.proofs.Common.{◌≡◌, drop}
 use Rattle.ir_lines.specs.SameTypes as same
 use Rattle.ir_lines.proofs.sameness.+same_ty.Given as goal
 
