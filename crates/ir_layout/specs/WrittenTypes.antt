@@ -84,8 +84,12 @@ types_in_inst insts.Unreachable = []
 abbrev pub types_in_block : Block → List Ty
 types_in_block block = flat_map types_in_inst block.insts
 
+-- a function's head
+abbrev pub types_in_head : FuncParts → List Ty
+types_in_head f = f.ret ∷ map (λ param. param.0) f.params
+
 abbrev pub types_in_func : FuncParts → List Ty
-types_in_func f = f.ret ∷ map (λ param. param.0) f.params ++ flat_map types_in_block f.blocks
+types_in_func f = types_in_head f ++ flat_map types_in_block f.blocks
 
 abbrev pub types_in_module : ModuleParts → List Ty
 types_in_module m = map (λ named. named.1) m.types ++ flat_map types_in_global m.globals ++ flat_map types_in_declare m.declares ++ flat_map types_in_func m.funcs

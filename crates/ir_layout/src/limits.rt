@@ -1,11 +1,12 @@
 //! Limits, and what a refused layout answers.
-ghost use Rattle.std.specs.Prelude.{◌≡◌, ◌∷◌, not, IfOk};
+ghost use Rattle.std.specs.Prelude.{◌≡◌, ◌∷◌, not, Some, None, if◌then◌else◌, IfOk};
 ghost use Rattle.ir_layout.specs.Limits.{limit_of, limit_among, is_too_large, is_too_deep, Refuses};
-ghost use Rattle.ir_layout.specs.WrittenTypes.{types_in_global};
+ghost use Rattle.ir_layout.specs.declared.limits.LimitKind.TheVariants.{TypeSize, TypeDepth};
+ghost use Rattle.ir_layout.specs.WrittenTypes.{types_in_global, types_in_declare, types_in_head, types_in_inst};
 
 use crate::type_table::TypeTable;
-use crate::written_types::{TypeTest, global_passes};
-use ir_core::{GlobalVar, Name, Ty};
+use crate::written_types::{TypeTest, declare_passes, global_passes, head_passes, inst_passes};
+use ir_core::{Declare, Func, GlobalVar, Inst, Name, Ty};
 use std::alloc::{AllocError, Global};
 
 /// The limits of a module.
@@ -90,15 +91,47 @@ impl TypeTest for NotTooDeep<'_> {
     }
 }
 
-/// The first limit of types that a global's line breaks.
-pub(crate) fn limit_among(types: &TypeTable, global: &GlobalVar) -> Option<LimitKind>
-    ensures { result ≡ limit_among types.now (types_in_global global.now) }
+// The limit of types that is broken, by whether all are small enough, and whether none nests too deep.
+fn first_broken(small: bool, shallow: bool) -> Option<LimitKind>
+    ensures { result ≡ (if not small then Some TypeSize else if not shallow then Some TypeDepth else None) }
 {
-    if !global_passes(global, &NotTooLarge { types }) {
+    if !small {
         Some(LimitKind::TypeSize)
-    } else if !global_passes(global, &NotTooDeep { types }) {
+    } else if !shallow {
         Some(LimitKind::TypeDepth)
     } else {
         None
     }
+}
+
+/// The first limit of types that a global's line breaks.
+pub(crate) fn limit_among(types: &TypeTable, global: &GlobalVar) -> Option<LimitKind>
+    ensures { result ≡ limit_among types.now (types_in_global global.now) }
+{
+    let small = global_passes(global, &NotTooLarge { types });
+    first_broken(small, global_passes(global, &NotTooDeep { types }))
+}
+
+/// The first limit of types that a declare's line breaks.
+pub(crate) fn limit_of_declare(types: &TypeTable, declare: &Declare) -> Option<LimitKind>
+    ensures { result ≡ limit_among types.now (types_in_declare declare.now) }
+{
+    let small = declare_passes(declare, &NotTooLarge { types });
+    first_broken(small, declare_passes(declare, &NotTooDeep { types }))
+}
+
+/// The first limit of types that a function's head breaks.
+pub(crate) fn limit_of_head(types: &TypeTable, f: &Func) -> Option<LimitKind>
+    ensures { result ≡ limit_among types.now (types_in_head f.now) }
+{
+    let small = head_passes(f, &NotTooLarge { types });
+    first_broken(small, head_passes(f, &NotTooDeep { types }))
+}
+
+/// The first limit of types that an instruction breaks.
+pub(crate) fn limit_of_inst(types: &TypeTable, inst: &Inst) -> Option<LimitKind>
+    ensures { result ≡ limit_among types.now (types_in_inst inst.now) }
+{
+    let small = inst_passes(inst, &NotTooLarge { types });
+    first_broken(small, inst_passes(inst, &NotTooDeep { types }))
 }

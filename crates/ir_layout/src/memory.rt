@@ -3,13 +3,14 @@ ghost use Rattle.std.specs.Prelude.{◌≡◌, None};
 ghost use Rattle.ir_layout.specs.Shapes.{size_of};
 ghost use Rattle.ir_layout.specs.Offsets.{offset_of};
 ghost use Rattle.ir_layout.specs.Memory.{address_of, is_valid, AreAddresses, AreApart};
-ghost use Rattle.ir_layout.specs.Limits.{limit_of};
+ghost use Rattle.ir_layout.specs.Limits.{limit_of, limit_among};
+ghost use Rattle.ir_layout.specs.WrittenTypes.{types_in_declare, types_in_head, types_in_inst};
 
-use crate::limits::LimitKind;
+use crate::limits::{self, LimitKind};
 use crate::offsets;
 use crate::spans::{self, Span};
 use crate::type_table::TypeTable;
-use ir_core::{Sym, Ty, Width};
+use ir_core::{Declare, Func, Inst, Sym, Ty, Width};
 use std::collections::HashMap;
 use std::marker::Model;
 
@@ -54,6 +55,27 @@ impl Layout {
         ensures { result ≡ limit_of self.now.types ty.now }
     {
         self.types.limit(ty)
+    }
+
+    /// The first limit of types that a declare's line breaks, `TypeSize` before `TypeDepth`.
+    pub fn limit_of_declare(&self, declare: &Declare) -> Option<LimitKind>
+        ensures { result ≡ limit_among self.now.types (types_in_declare declare.now) }
+    {
+        limits::limit_of_declare(&self.types, declare)
+    }
+
+    /// The first limit of types that a function's head breaks, `TypeSize` before `TypeDepth`.
+    pub fn limit_of_head(&self, f: &Func) -> Option<LimitKind>
+        ensures { result ≡ limit_among self.now.types (types_in_head f.now) }
+    {
+        limits::limit_of_head(&self.types, f)
+    }
+
+    /// The first limit of types that an instruction breaks, `TypeSize` before `TypeDepth`.
+    pub fn limit_of_inst(&self, inst: &Inst) -> Option<LimitKind>
+        ensures { result ≡ limit_among self.now.types (types_in_inst inst.now) }
+    {
+        limits::limit_of_inst(&self.types, inst)
     }
 
     /// How many bytes a type takes.

@@ -1,7 +1,7 @@
 //! The types that the lines of a module write, tested one by one (`specs/WrittenTypes.antt`).
 ghost use Rattle.std.specs.Prelude.{◌≡◌, ◌∷◌, ◌++◌, map};
 ghost use Rattle.std.specs.List.{flat_map, list_all};
-ghost use Rattle.ir_layout.specs.WrittenTypes.{types_in_val, types_in_init, types_in_global, types_in_declare, types_in_arg, types_in_arm, types_in_index, types_in_option, types_in_inst, types_in_block, types_in_func, types_in_module, is_defined, are_defined, are_distinct, types_known};
+ghost use Rattle.ir_layout.specs.WrittenTypes.{types_in_val, types_in_init, types_in_global, types_in_declare, types_in_arg, types_in_arm, types_in_index, types_in_option, types_in_inst, types_in_block, types_in_head, types_in_func, types_in_module, is_defined, are_defined, are_distinct, types_known};
 
 use ir_core::{Block, Declare, Func, GlobalVar, Init, Inst, Loc, Module, Ty, TypeId, Val, Width};
 
@@ -66,9 +66,9 @@ fn types_pass<T: TypeTest>(types: &[Ty], test: &T) -> bool
     true
 }
 
-// Whether a declare's types pass.
+/// Whether a declare's types pass.
 #[tactic(auto, using(crate::proofs::AllPass::all_pass))]
-fn declare_passes<T: TypeTest>(declare: &Declare, test: &T) -> bool
+pub(crate) fn declare_passes<T: TypeTest>(declare: &Declare, test: &T) -> bool
     ensures { result ≡ list_all (T.passes test.now) (types_in_declare declare.now) }
 {
     test.passes(&declare.ret) && types_pass(declare.params.items(), test)
@@ -146,9 +146,9 @@ fn option_passes<T: TypeTest>(val: &Option<Val>, test: &T) -> bool
     }
 }
 
-// Whether an instruction's types pass.
+/// Whether an instruction's types pass.
 #[tactic(auto, using(crate::proofs::AllPass::all_pass))]
-fn inst_passes<T: TypeTest>(inst: &Inst, test: &T) -> bool
+pub(crate) fn inst_passes<T: TypeTest>(inst: &Inst, test: &T) -> bool
     ensures { result ≡ list_all (T.passes test.now) (types_in_inst inst.now) }
 {
     match inst {
@@ -221,12 +221,20 @@ fn params_pass<T: TypeTest>(params: &[(Ty, Loc)], test: &T) -> bool
     true
 }
 
+/// Whether the types of a function's head pass.
+#[tactic(auto, using(crate::proofs::AllPass::all_pass))]
+pub(crate) fn head_passes<T: TypeTest>(f: &Func, test: &T) -> bool
+    ensures { result ≡ list_all (T.passes test.now) (types_in_head f.now) }
+{
+    test.passes(f.ret()) && params_pass(f.params(), test)
+}
+
 // Whether a function's types pass.
 #[tactic(auto, using(crate::proofs::AllPass::all_pass))]
 fn func_passes<T: TypeTest>(f: &Func, test: &T) -> bool
     ensures { result ≡ list_all (T.passes test.now) (types_in_func f.now) }
 {
-    test.passes(f.ret()) && params_pass(f.params(), test) && blocks_pass(f.blocks(), test)
+    head_passes(f, test) && blocks_pass(f.blocks(), test)
 }
 
 // Whether the types of globals, of declares, of functions, of named types pass.
