@@ -15,7 +15,7 @@ first_break_append keeps xs ys =
     let test : Line → Bool = λ line. not (keeps line) in
     ap (option_map site_of) (find-append test xs ys) ∙ map-or site_of (find test xs) (find test ys)
 
-drop_at : {A : Type 0} (xs : List A) (i : ℕ) (x : A) → i < length xs → x ≡ get_or xs i x → drop i xs ≡ x ∷ drop (i + 1) xs
+pub drop_at : {A : Type 0} (xs : List A) (i : ℕ) (x : A) → i < length xs → x ≡ get_or xs i x → drop i xs ≡ x ∷ drop (i + 1) xs
 drop_at xs i x inside at = let e : drop i xs ≡ get_or xs i x ∷ drop (suc i) xs = drop-cons xs i x inside in let n : suc i ≡ i + 1 = omega arith in cc
 
 -- of one block or one function and those behind it

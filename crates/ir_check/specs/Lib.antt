@@ -1,0 +1,5 @@
+pub mod Places
+pub mod CodeLimits
+pub mod Blocks
+pub mod Functions
+pub mod Flows

@@ -1,0 +1,132 @@
+//! How blocks begin and end, and that nothing leads to the entry (`specs/Blocks.antt`).
+ghost use Rattle.std.specs.Prelude.{◌≡◌, not, IfOk, map};
+ghost use Rattle.std.specs.List.{list_any};
+ghost use Rattle.ir_flow.specs.Edges.{edges_of};
+ghost use Rattle.ir_check.specs.Blocks.{is_terminator, is_phi, ends_well, begins_well, enters};
+
+use ir_core::{Block, Declare, Func, GlobalVar, Inst, Module};
+use ir_flow::edges;
+use ir_lines::Rule;
+use std::alloc::{AllocError, Global};
+
+// Whether an instruction ends a block.
+fn is_terminator(inst: &Inst) -> bool
+    ensures { result ≡ is_terminator inst.now }
+{
+    matches!(
+        inst,
+        Inst::Br { .. }
+            | Inst::CondBr { .. }
+            | Inst::Switch { .. }
+            | Inst::Ret { .. }
+            | Inst::Unreachable
+    )
+}
+
+fn is_phi(inst: &Inst) -> bool
+    ensures { result ≡ is_phi inst.now }
+{
+    matches!(inst, Inst::Phi { .. })
+}
+
+// Whether the last of the instructions is the one terminator.
+fn ends_well(body: &[Inst]) -> bool
+    ensures { result ≡ ends_well body.now }
+{
+    let mut left = body;
+    while let [inst, rest @ ..] = left {
+        if rest.is_empty() {
+            return is_terminator(inst);
+        }
+        if is_terminator(inst) {
+            return false;
+        }
+        left = rest;
+    }
+    false
+}
+
+// Whether one of the instructions is a phi.
+fn has_phi(body: &[Inst]) -> bool
+    ensures { result ≡ list_any is_phi body.now }
+{
+    for inst in body {
+        if is_phi(inst) {
+            return true;
+        }
+    }
+    false
+}
+
+// Whether no phi stands behind another instruction.
+fn begins_well(body: &[Inst]) -> bool
+    ensures { result ≡ begins_well body.now }
+{
+    let mut left = body;
+    while let [inst, rest @ ..] = left {
+        if !is_phi(inst) {
+            return !has_phi(rest);
+        }
+        left = rest;
+    }
+    true
+}
+
+/// The rule that phis stand first in a block, and its one terminator last.
+#[derive(Drop)]
+pub(crate) struct Terminators<'m> {
+    pub module: &'m Module,
+}
+
+impl Rule for Terminators<'_> {
+    ghost use Rattle.ir_check.specs.Blocks.{terminators_keep};
+
+    ghost module_of = { λ rule. rule.module.now };
+
+    ghost keeps = { λ rule line. terminators_keep line };
+
+    fn global(&self, _global: &GlobalVar) -> bool {
+        true
+    }
+
+    fn declare(&self, _declare: &Declare) -> bool {
+        true
+    }
+
+    fn head(&self, _n: usize, _f: &Func) -> bool {
+        true
+    }
+
+    fn block(&self, _n: usize, _f: &Func, _b: usize, block: &Block) -> bool {
+        ends_well(block.insts.items()) && begins_well(block.insts.items())
+    }
+
+    fn inst(&self, _n: usize, _f: &Func, _b: usize, _i: usize, _inst: &Inst) -> bool {
+        true
+    }
+}
+
+// Whether some edge leads to the entry of a function.
+fn enters(alloc: Global, f: &Func) -> Result<bool, AllocError>
+    ensures { IfOk result (λ told. told ≡ enters f.now) }
+{
+    let e = edges(alloc, f)?;
+    for (_, to) in e.pairs() {
+        if *to == 0 {
+            return Ok(true);
+        }
+    }
+    Ok(false)
+}
+
+/// For each function whether some edge leads to its entry.
+pub(crate) fn entered_functions(alloc: Global, m: &Module) -> Result<Vec<bool>, AllocError>
+    ensures { IfOk result (λ entered. entered.items ≡ map enters m.now.funcs) }
+{
+    let mut entered = Vec::with_capacity(alloc, m.funcs().len())?;
+    for f in m.funcs() {
+        let told = enters(alloc, f)?;
+        entered.push(told)?;
+    }
+    Ok(entered)
+}
