@@ -1,0 +1,3 @@
+pub mod Externals
+pub mod Calls
+pub mod Standings

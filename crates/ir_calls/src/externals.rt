@@ -1,0 +1,118 @@
+//! The functions outside a module that it may call (`specs/Externals.antt`).
+ghost use Rattle.std.specs.Prelude.{◌≡◌, map};
+ghost use Rattle.ir_lines.specs.SameTypes as same;
+ghost use Rattle.ir_calls.specs.Externals.{external_of, signature_of, has_signature, type_of};
+
+use ir_core::{Ty, Width};
+use ir_lines::{same_ty, same_types};
+
+/// A function of the C library or of the tool that a module may declare and call.
+#[derive(Clone, Copy, PartialEq, Eq)]
+pub enum External {
+    /// `pthread_create`: starts a thread.
+    PthreadCreate,
+    /// `pthread_join`: waits for a thread's end.
+    PthreadJoin,
+    /// `pthread_mutex_lock`
+    MutexLock,
+    /// `pthread_mutex_unlock`
+    MutexUnlock,
+    /// `putchar`: writes a byte.
+    Putchar,
+    /// `exit`: ends the program.
+    Exit,
+    /// `malloc`: takes memory.
+    Malloc,
+    /// `free`: gives it back.
+    Free,
+    /// `haft_out`: writes a number.
+    HaftOut,
+    /// `haft_arg`: reads an argument of the run.
+    HaftArg,
+}
+
+// A type in an external's signature.
+#[derive(Clone, Copy)]
+pub(crate) enum Scalar {
+    Void,
+    I32,
+    I64,
+    Ptr,
+}
+
+impl Scalar {
+    /// Whether a type is this one.
+    pub(crate) fn is(self, ty: &Ty) -> bool
+        ensures { result ≡ same.same_ty ty.now (type_of self) }
+    {
+        match (self, ty) {
+            (Scalar::Void, Ty::Void)
+            | (Scalar::I32, Ty::Int(Width::W32))
+            | (Scalar::I64, Ty::Int(Width::W64))
+            | (Scalar::Ptr, Ty::Ptr) => true,
+            _ => false,
+        }
+    }
+}
+
+// Whether types are these, one beside the other.
+fn are(types: &[Ty], scalars: &[Scalar]) -> bool
+    ensures { result ≡ same.same_types types.now (map type_of scalars.now) }
+{
+    let (mut types, mut scalars) = (types, scalars);
+    while let ([ty, other_types @ ..], [scalar, other_scalars @ ..]) = (types, scalars) {
+        if !scalar.is(ty) {
+            return false;
+        }
+        (types, scalars) = (other_types, other_scalars);
+    }
+    types.is_empty() && scalars.is_empty()
+}
+
+impl External {
+    /// The external with this name, or `None` exactly where it is no external's.
+    pub fn named(name: &[u8]) -> Option<External>
+        ensures { result ≡ external_of name.now }
+    {
+        match name {
+            b"pthread_create" => Some(External::PthreadCreate),
+            b"pthread_join" => Some(External::PthreadJoin),
+            b"pthread_mutex_lock" => Some(External::MutexLock),
+            b"pthread_mutex_unlock" => Some(External::MutexUnlock),
+            b"putchar" => Some(External::Putchar),
+            b"exit" => Some(External::Exit),
+            b"malloc" => Some(External::Malloc),
+            b"free" => Some(External::Free),
+            b"haft_out" => Some(External::HaftOut),
+            b"haft_arg" => Some(External::HaftArg),
+            _ => None,
+        }
+    }
+
+    /// Whether a function with this result and these parameters has the external's signature.
+    pub fn has_signature(self, ret: &Ty, params: &[Ty]) -> bool
+        ensures { result ≡ has_signature ret.now params.now (signature_of self) }
+    {
+        match self {
+            External::PthreadCreate => {
+                Scalar::I32.is(ret)
+                    && are(
+                        params,
+                        &[Scalar::Ptr, Scalar::Ptr, Scalar::Ptr, Scalar::Ptr],
+                    )
+            }
+            External::PthreadJoin => {
+                Scalar::I32.is(ret) && are(params, &[Scalar::I64, Scalar::Ptr])
+            }
+            External::MutexLock | External::MutexUnlock => {
+                Scalar::I32.is(ret) && are(params, &[Scalar::Ptr])
+            }
+            External::Putchar => Scalar::I32.is(ret) && are(params, &[Scalar::I32]),
+            External::Exit => Scalar::Void.is(ret) && are(params, &[Scalar::I32]),
+            External::Malloc => Scalar::Ptr.is(ret) && are(params, &[Scalar::I64]),
+            External::Free => Scalar::Void.is(ret) && are(params, &[Scalar::Ptr]),
+            External::HaftOut => Scalar::Void.is(ret) && are(params, &[Scalar::I64]),
+            External::HaftArg => Scalar::I64.is(ret) && are(params, &[Scalar::I64]),
+        }
+    }
+}
