@@ -59,14 +59,17 @@ impl Scalar {
 fn are(types: &[Ty], scalars: &[Scalar]) -> bool
     ensures { result ≡ same.same_types types.now (map type_of scalars.now) }
 {
-    let (mut types, mut scalars) = (types, scalars);
-    while let ([ty, other_types @ ..], [scalar, other_scalars @ ..]) = (types, scalars) {
+    let mut left = scalars;
+    for ty in types {
+        let [scalar, rest @ ..] = left else {
+            return false;
+        };
         if !scalar.is(ty) {
             return false;
         }
-        (types, scalars) = (other_types, other_scalars);
+        left = rest;
     }
-    types.is_empty() && scalars.is_empty()
+    left.is_empty()
 }
 
 impl External {
@@ -74,18 +77,28 @@ impl External {
     pub fn named(name: &[u8]) -> Option<External>
         ensures { result ≡ external_of name.now }
     {
-        match name {
-            b"pthread_create" => Some(External::PthreadCreate),
-            b"pthread_join" => Some(External::PthreadJoin),
-            b"pthread_mutex_lock" => Some(External::MutexLock),
-            b"pthread_mutex_unlock" => Some(External::MutexUnlock),
-            b"putchar" => Some(External::Putchar),
-            b"exit" => Some(External::Exit),
-            b"malloc" => Some(External::Malloc),
-            b"free" => Some(External::Free),
-            b"haft_out" => Some(External::HaftOut),
-            b"haft_arg" => Some(External::HaftArg),
-            _ => None,
+        if name == b"pthread_create".as_slice() {
+            Some(External::PthreadCreate)
+        } else if name == b"pthread_join".as_slice() {
+            Some(External::PthreadJoin)
+        } else if name == b"pthread_mutex_lock".as_slice() {
+            Some(External::MutexLock)
+        } else if name == b"pthread_mutex_unlock".as_slice() {
+            Some(External::MutexUnlock)
+        } else if name == b"putchar".as_slice() {
+            Some(External::Putchar)
+        } else if name == b"exit".as_slice() {
+            Some(External::Exit)
+        } else if name == b"malloc".as_slice() {
+            Some(External::Malloc)
+        } else if name == b"free".as_slice() {
+            Some(External::Free)
+        } else if name == b"haft_out".as_slice() {
+            Some(External::HaftOut)
+        } else if name == b"haft_arg".as_slice() {
+            Some(External::HaftArg)
+        } else {
+            None
         }
     }
 

@@ -4,6 +4,7 @@ ghost use Rattle.std.specs.Option.{option_map};
 ghost use Rattle.ir_calls.specs.Calls.{standing_of, is_function, external_named, is_plain, are_plain, values_of_args, values_of, is_plain_init, takes, result_keeps, is_null, second_is_null, names_start, third_is_start, without_third, args_keep, call_keeps, inst_keeps, declare_keeps, head_keeps};
 ghost use Rattle.ir_calls.specs.Calls as calls;
 ghost use Rattle.ir_calls.specs.Standings.{said};
+ghost use Rattle.ir_calls.specs.declared.externals.External.TheVariants.{PthreadCreate};
 
 use crate::External;
 use crate::externals::Scalar;
@@ -18,7 +19,7 @@ use std::marker::Model;
 /// What a module's `@` names stand for, and so whether its lines call well. Contracts see the module.
 #[derive(Drop)]
 pub struct Calls<'m> {
-    module: &'m Module,
+    m: &'m Module,
     items: HashMap<u32, Item<'m>>,
 }
 
@@ -34,9 +35,9 @@ impl<'m> Model for Calls<'m> {
 
     ghost coded = { Prim.hlevel (codes, ty.the_row.coded, init.the_row.coded) };
 
-    ghost view = { λ c. c.module.now };
+    ghost view = { λ c. c.m.now };
 
-    ghost invariant = { λ c. AreItems (standings c.module.now) c.items };
+    ghost invariant = { λ c. AreItems (standings c.m.now) c.items };
 }
 
 // Whether a value is `null`.
@@ -78,11 +79,11 @@ fn is_start(f: &Func) -> bool
 
 impl<'m> Calls<'m> {
     /// What the `@` names of a module stand for.
-    pub fn new(alloc: Global, module: &'m Module) -> Result<Calls<'m>, AllocError>
-        ensures { IfOk result (λ c. c ≡ module.now) }
+    pub fn new(alloc: Global, m: &'m Module) -> Result<Calls<'m>, AllocError>
+        ensures { IfOk result (λ c. c ≡ m.now) }
     {
-        let items = items_of(alloc, module)?;
-        Ok(Calls { module, items })
+        let items = items_of(alloc, m)?;
+        Ok(Calls { m, items })
     }
 
     // What a name stands for.
@@ -96,8 +97,8 @@ impl<'m> Calls<'m> {
     fn external(&self, sym: Sym) -> Option<External>
         ensures { result ≡ external_named self.now sym }
     {
-        if sym.0 < self.module.sym_count() {
-            External::named(self.module.sym_name(sym))
+        if sym.0 < self.m.sym_count() {
+            External::named(self.m.sym_name(sym))
         } else {
             External::named(b"")
         }

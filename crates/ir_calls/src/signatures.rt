@@ -9,26 +9,32 @@ use ir_lines::same_ty;
 pub(crate) fn args_are(args: &[(Ty, Val)], types: &[Ty]) -> bool
     ensures { result ≡ same.same_types (map (λ arg. arg.0) args.now) types.now }
 {
-    let (mut args, mut types) = (args, types);
-    while let ([(arg, _), other_args @ ..], [ty, other_types @ ..]) = (args, types) {
+    let mut left = types;
+    for (arg, _) in args {
+        let [ty, rest @ ..] = left else {
+            return false;
+        };
         if !same_ty(arg, ty) {
             return false;
         }
-        (args, types) = (other_args, other_types);
+        left = rest;
     }
-    args.is_empty() && types.is_empty()
+    left.is_empty()
 }
 
 /// Whether the types of arguments are those of parameters, one beside the other.
 pub(crate) fn args_fit(args: &[(Ty, Val)], params: &[(Ty, Loc)]) -> bool
     ensures { result ≡ same.same_types (map (λ arg. arg.0) args.now) (map (λ param. param.0) params.now) }
 {
-    let (mut args, mut params) = (args, params);
-    while let ([(arg, _), other_args @ ..], [(ty, _), other_params @ ..]) = (args, params) {
+    let mut left = params;
+    for (arg, _) in args {
+        let [(ty, _), rest @ ..] = left else {
+            return false;
+        };
         if !same_ty(arg, ty) {
             return false;
         }
-        (args, params) = (other_args, other_params);
+        left = rest;
     }
-    args.is_empty() && params.is_empty()
+    left.is_empty()
 }

@@ -27,7 +27,7 @@ fn enter<'m>(
     item: Item<'m>,
 ) -> Result<(), AllocError>
     ensures { OnOk result ((other : SymValue) → looked_up items.new other ≡
-        option_or (looked_up items.old other) (first_standing other ((sym, said item) ∷ []))) }
+        option_or (looked_up items.old other) (first_standing other ((sym, said item.entry) ∷ []))) }
 {
     if !items.contains_key(&sym.0) {
         items.insert(sym.0, item)?;
