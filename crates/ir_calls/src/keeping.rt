@@ -67,6 +67,7 @@ fn result_keeps(dst: Option<Loc>, ret: &Ty) -> bool
     }
 }
 
+#[tactic(auto, using(crate::proofs::Starts::more_params))]
 // Whether a function may be what a thread runs.
 fn is_start(f: &Func) -> bool
     ensures { result ≡ calls.is_start (Some (calls.of_func f.now).1) }
