@@ -1,2 +1,3 @@
 mod Entered
+mod Plain
 mod Starts

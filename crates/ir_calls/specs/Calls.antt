@@ -1,8 +1,9 @@
--- What the calls of a module must keep (LLVM Language Reference, 'call Instruction', 'Functions').
+-- What the calls of a module must keep (LLVM Language Reference, 'call Instruction', 'Functions', 'Global Variables').
 --
--- Choices: a function's name stands only where it is called, and as what a new thread runs: as a value it is refused, whichever
--- type is written there. A global isn't called. What threads ask of their arguments goes by the callee's name, also
--- where the module defines a function of that name. An argument that lacks is bad.
+-- Choices: a function's name stands only where it is called, and as what a new thread runs; anywhere else it is refused as a
+-- value. A global isn't called. What a thread's start and its end ask of arguments goes by the callee's name, also where the
+-- module defines a function of that name; where such an argument lacks, the call is bad. A name that is defined twice stands
+-- for what comes first: globals, then declares, then functions.
 use Rattle.std.specs.Prelude.{ℕ, Bool, true, false, not, ◌&&◌, List, [], ◌∷◌, ◌++◌, map, nat_eq, slice_index_or, Option, Some, None, is_none}
 use Rattle.std.specs.List.{list_all}
 use Rattle.std.specs.Map.{lookup}
@@ -46,18 +47,22 @@ of_func f = (f.sym, Defined (record { result = f.ret; params = map (λ param. pa
 abbrev pub standings : ModuleParts → List (Sym × Standing)
 standings m = map of_global m.globals ++ map of_declare m.declares ++ map of_func m.funcs
 
--- what the first of these says that has the name
+-- what the first of these tells that has the name
 abbrev pub first_standing : Sym → List (Sym × Standing) → Option Standing
 first_standing sym named = lookup (λ other. nat_eq other.0 sym.0) named
 
 abbrev pub standing_of : ModuleParts → Sym → Option Standing
 standing_of m sym = first_standing sym (standings m)
 
-abbrev pub is_function : Option Standing → Bool
-is_function None = false
-is_function (Some Variable) = false
-is_function (Some (Declared signature)) = true
-is_function (Some (Defined signature)) = true
+abbrev pub is_callable : Option Standing → Bool
+is_callable None = false
+is_callable (Some Variable) = false
+is_callable (Some (Declared signature)) = true
+is_callable (Some (Defined signature)) = true
+
+-- the name is a function's
+abbrev pub is_function : ModuleParts → Sym → Bool
+is_function m sym = is_callable (standing_of m sym)
 
 -- the external that an @ name names
 abbrev pub external_named : ModuleParts → Sym → Option External
@@ -70,15 +75,15 @@ abbrev pub is_plain : ModuleParts → Val → Bool
 is_plain m (values.Reg at) = true
 is_plain m (values.Int n) = true
 is_plain m values.Null = true
-is_plain m (values.Global sym) = not (is_function (standing_of m sym))
-is_plain m (values.Gep gep) = not (is_function (standing_of m gep.sym))
+is_plain m (values.Global sym) = not (is_function m sym)
+is_plain m (values.Gep gep) = not (is_function m gep.sym)
 
 abbrev pub are_plain : ModuleParts → List Val → Bool
 are_plain m vals = list_all (is_plain m) vals
 
--- the values of arguments
-abbrev pub values_of_args : List (Ty × Val) → List Val
-values_of_args args = map (λ arg. arg.1) args
+-- the values of arguments are so
+abbrev pub args_plain : ModuleParts → List (Ty × Val) → Bool
+args_plain m args = list_all (λ arg. is_plain m arg.1) args
 
 -- the values that an instruction writes, in order
 abbrev pub values_of : Inst → List Val
@@ -94,7 +99,7 @@ values_of (insts.Rmw dst op ptr ty val) = ptr ∷ val ∷ []
 values_of (insts.CmpXchg dst ptr ty old new) = ptr ∷ old ∷ new ∷ []
 values_of insts.Fence = []
 values_of (insts.Extract dst elem pair index) = []
-values_of (insts.Call dst ret callee args) = values_of_args args
+values_of (insts.Call dst ret callee args) = map (λ arg. arg.1) args
 values_of (insts.Phi dst ty arms) = map (λ arm. arm.0) arms
 values_of (insts.Br to) = []
 values_of (insts.CondBr cond on_true on_false) = cond ∷ []
@@ -103,16 +108,17 @@ values_of (insts.Ret ty None) = []
 values_of (insts.Ret ty (Some val)) = val ∷ []
 values_of insts.Unreachable = []
 
--- one layer of an initialiser, its parts' answers given: no function's name stands in it
+-- one layer of an initialiser, its parts' answers given
 abbrev pub plain_step : ModuleParts → Init-F Bool → Bool
 plain_step m Init-F.Zero = true
 plain_step m (Init-F.Int n) = true
 plain_step m Init-F.Null = true
-plain_step m (Init-F.Addr sym) = not (is_function (standing_of m sym))
-plain_step m (Init-F.Gep gep) = not (is_function (standing_of m gep.sym))
+plain_step m (Init-F.Addr sym) = not (is_function m sym)
+plain_step m (Init-F.Gep gep) = not (is_function m gep.sym)
 plain_step m (Init-F.Bytes bytes) = true
 plain_step m (Init-F.Parts parts) = list_all (λ part. part.1) parts
 
+-- no function's name stands in the initialiser
 abbrev pub is_plain_init : ModuleParts → Init → Bool
 is_plain_init m = fold-Init Bool (plain_step m)
 
@@ -173,9 +179,9 @@ without_third (first ∷ second ∷ third ∷ rest) = first ∷ second ∷ rest
 
 -- what a callee asks of its arguments by its name
 abbrev pub args_keep : ModuleParts → Option External → List (Ty × Val) → Bool
-args_keep m (Some PthreadCreate) args = second_is_null args && third_is_start m args && are_plain m (values_of_args (without_third args))
-args_keep m (Some PthreadJoin) args = second_is_null args && are_plain m (values_of_args args)
-args_keep m other args = are_plain m (values_of_args args)
+args_keep m (Some PthreadCreate) args = second_is_null args && third_is_start m args && args_plain m (without_third args)
+args_keep m (Some PthreadJoin) args = second_is_null args && args_plain m args
+args_keep m other args = args_plain m args
 
 abbrev pub call_keeps : ModuleParts → Option Loc → Ty → Sym → List (Ty × Val) → Bool
 call_keeps m dst ret callee args =

@@ -1,4 +1,5 @@
--- The functions outside a module that it may call: the C library's, and the tool's own. The table is the tool's.
+-- The functions outside a module that it may call: the C library's, and the tool's own. The table is the tool's; a call
+-- of one is written as that of any function (LLVM Language Reference, 'call Instruction').
 use Rattle.std.specs.Prelude.{ℕ, Bool, ◌&&◌, List, [], ◌∷◌, Option}
 use Rattle.std.specs.List.{zip}
 use Rattle.std.specs.Map.{lookup}
@@ -10,8 +11,6 @@ use Rattle.ir_core.specs.Lines.{externals}
 use Rattle.ir_lines.specs.SameTypes.{same_ty, same_types}
 use Rattle.ir_calls.specs.declared.externals.External.{External}
 use Rattle.ir_calls.specs.declared.externals.External.TheVariants.{PthreadCreate, PthreadJoin, MutexLock, MutexUnlock, Putchar, Exit, Malloc, Free, HaftOut, HaftArg}
-use Rattle.ir_calls.specs.declared.externals.Scalar.{Scalar}
-use Rattle.ir_calls.specs.declared.externals.Scalar.TheVariants as scalars
 
 -- ---- names
 
@@ -19,7 +18,7 @@ use Rattle.ir_calls.specs.declared.externals.Scalar.TheVariants as scalars
 abbrev pub every_external : List External
 every_external = PthreadCreate ∷ PthreadJoin ∷ MutexLock ∷ MutexUnlock ∷ Putchar ∷ Exit ∷ Malloc ∷ Free ∷ HaftOut ∷ HaftArg ∷ []
 
--- the external of a name
+-- the external that has a name
 abbrev pub external_of : List ℕ → Option External
 external_of name = lookup (bytes_eq name) (zip externals every_external)
 
@@ -48,14 +47,6 @@ signature_of Free = record { result = types.Void; params = types.Ptr ∷ [] }
 signature_of HaftOut = record { result = types.Void; params = i64 ∷ [] }
 signature_of HaftArg = record { result = i64; params = i64 ∷ [] }
 
--- these types are a signature's
+-- a result and parameters of these types are a signature's
 abbrev pub has_signature : Ty → List Ty → Signature → Bool
 has_signature result params signature = same_ty result signature.result && same_types params signature.params
-
--- ---- how the code writes them
-
-abbrev pub type_of : Scalar → Ty
-type_of scalars.Void = types.Void
-type_of scalars.I32 = i32
-type_of scalars.I64 = i64
-type_of scalars.Ptr = types.Ptr

@@ -12,16 +12,16 @@ use Rattle.ir_calls.specs.Calls.{Standing, Variable, Declared, Defined, first_st
 abbrev pub Items : Type 0
 Items = HashMap ℕ Item (BuildHasherDefault FoldHasher)
 
--- what an item of the table says
-abbrev pub said : Item → Standing
-said items.Variable = Variable
-said (items.Declared declare) = Declared (record { result = declare.now.ret; params = declare.now.params })
-said (items.Defined f) = Defined (record { result = f.now.ret; params = map (λ param. param.0) f.now.params })
+-- what an item of the table tells
+abbrev pub told : Item → Standing
+told items.Variable = Variable
+told (items.Declared declare) = Declared (record { result = declare.now.ret; params = declare.now.params })
+told (items.Defined f) = Defined (record { result = f.now.ret; params = map (λ param. param.0) f.now.params })
 
--- what the table says of a name
+-- what the table tells of a name
 abbrev pub looked_up : Items → Sym → Option Standing
-looked_up table sym = option_map said (get nat_eq table sym.0)
+looked_up table sym = option_map told (get nat_eq table sym.0)
 
--- of each name the table says what the first of these does
+-- of each name the table tells what the first of these does
 abbrev pub AreItems : List (Sym × Standing) → Items → Type 0
 AreItems named table = (sym : Sym) → looked_up table sym ≡ first_standing sym named

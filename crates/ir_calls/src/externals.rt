@@ -1,13 +1,12 @@
 //! The functions outside a module that it may call (`specs/Externals.antt`).
-ghost use Rattle.std.specs.Prelude.{◌≡◌, map};
-ghost use Rattle.ir_lines.specs.SameTypes as same;
-ghost use Rattle.ir_calls.specs.Externals.{external_of, signature_of, has_signature, type_of};
+ghost use Rattle.std.specs.Prelude.{◌≡◌};
+ghost use Rattle.ir_calls.specs.Externals.{external_of, signature_of, has_signature};
 
-use ir_core::{Ty, Width};
-use ir_lines::{same_ty, same_types};
+use crate::scalars::{Scalar, are};
+use ir_core::Ty;
 
 /// A function of the C library or of the tool that a module may declare and call.
-#[derive(Clone, Copy, PartialEq, Eq)]
+#[derive(Clone, Copy)]
 pub enum External {
     /// `pthread_create`: starts a thread.
     PthreadCreate,
@@ -29,47 +28,6 @@ pub enum External {
     HaftOut,
     /// `haft_arg`: reads an argument of the run.
     HaftArg,
-}
-
-// A type in an external's signature.
-#[derive(Clone, Copy)]
-pub(crate) enum Scalar {
-    Void,
-    I32,
-    I64,
-    Ptr,
-}
-
-impl Scalar {
-    /// Whether a type is this one.
-    pub(crate) fn is(self, ty: &Ty) -> bool
-        ensures { result ≡ same.same_ty ty.now (type_of self) }
-    {
-        match (self, ty) {
-            (Scalar::Void, Ty::Void)
-            | (Scalar::I32, Ty::Int(Width::W32))
-            | (Scalar::I64, Ty::Int(Width::W64))
-            | (Scalar::Ptr, Ty::Ptr) => true,
-            _ => false,
-        }
-    }
-}
-
-// Whether types are these, one beside the other.
-fn are(types: &[Ty], scalars: &[Scalar]) -> bool
-    ensures { result ≡ same.same_types types.now (map type_of scalars.now) }
-{
-    let mut left = scalars;
-    for ty in types {
-        let [scalar, rest @ ..] = left else {
-            return false;
-        };
-        if !scalar.is(ty) {
-            return false;
-        }
-        left = rest;
-    }
-    left.is_empty()
 }
 
 impl External {

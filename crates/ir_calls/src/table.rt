@@ -3,7 +3,7 @@ ghost use Rattle.std.specs.Prelude.{◌≡◌, [], ◌∷◌, map, IfOk, OnOk};
 ghost use Rattle.std.specs.Option.{option_or};
 ghost use Rattle.ir_core.specs.declared.types.Sym.{Sym as SymValue};
 ghost use Rattle.ir_calls.specs.Calls.{first_standing, standings, of_global, of_declare, of_func};
-ghost use Rattle.ir_calls.specs.Standings.{looked_up, said, AreItems};
+ghost use Rattle.ir_calls.specs.Standings.{looked_up, told, AreItems};
 
 use ir_core::{Declare, Func, GlobalVar, Module, Sym};
 use std::alloc::{AllocError, Global};
@@ -27,7 +27,7 @@ fn enter<'m>(
     item: Item<'m>,
 ) -> Result<(), AllocError>
     ensures { OnOk result ((other : SymValue) → looked_up items.new other ≡
-        option_or (looked_up items.old other) (first_standing other ((sym, said item.entry) ∷ []))) }
+        option_or (looked_up items.old other) (first_standing other ((sym, told item.entry) ∷ []))) }
 {
     if !items.contains_key(&sym.0) {
         items.insert(sym.0, item)?;
