@@ -4,7 +4,7 @@ use Rattle.std.specs.Prelude.{Option, Some, None, nat_eq}
 use Rattle.std.specs.Option.{option_or}
 use Rattle.ir_core.specs.declared.types.Sym.{Sym}
 use Rattle.ir_core.specs.Module.{ModuleParts}
-use Rattle.ir_calls.specs.Calls.{Standing, of_global, of_declare, of_func, standings, first_standing, standing_of}
+use Rattle.ir_calls.specs.Calls.{Standing, of_global, of_declare, of_func, first_standing, standing_of}
 
 first-append : (name : Sym) (xs ys : List (Sym × Standing)) → first_standing name (xs ++ ys) ≡ option_or (first_standing name xs) (first_standing name ys)
 first-append name [] ys = refl

@@ -4,7 +4,7 @@
 -- value. A global isn't called. What a thread's start and its end ask of arguments goes by the callee's name, also where the
 -- module defines a function of that name; where such an argument lacks, the call is bad. A name that is defined twice stands
 -- for what comes first: globals, then declares, then functions.
-use Rattle.std.specs.Prelude.{ℕ, Bool, true, false, not, ◌&&◌, List, [], ◌∷◌, ◌++◌, map, nat_eq, slice_index_or, Option, Some, None, is_none}
+use Rattle.std.specs.Prelude.{Bool, true, false, not, ◌&&◌, List, [], ◌∷◌, ◌++◌, map, nat_eq, slice_index_or, Option, Some, None, is_none}
 use Rattle.std.specs.List.{list_all}
 use Rattle.std.specs.Map.{lookup}
 use Rattle.ir_core.specs.declared.types.Ty.{Ty}

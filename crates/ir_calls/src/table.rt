@@ -21,11 +21,7 @@ pub(crate) enum Item<'m> {
 }
 
 // Enters what a name stands for, where it stands for nothing yet.
-fn enter<'m>(
-    items: &mut HashMap<u32, Item<'m>>,
-    sym: Sym,
-    item: Item<'m>,
-) -> Result<(), AllocError>
+fn enter<'m>(items: &mut HashMap<u32, Item<'m>>, sym: Sym, item: Item<'m>) -> Result<(), AllocError>
     ensures { OnOk result ((other : SymValue) → looked_up items.new other ≡
         option_or (looked_up items.old other) (first_standing other ((sym, told item.entry) ∷ []))) }
 {
@@ -64,10 +60,7 @@ fn enter_declares<'m>(
 }
 
 // Enters functions, where their names stand for nothing yet.
-fn enter_funcs<'m>(
-    items: &mut HashMap<u32, Item<'m>>,
-    funcs: &'m [Func],
-) -> Result<(), AllocError>
+fn enter_funcs<'m>(items: &mut HashMap<u32, Item<'m>>, funcs: &'m [Func]) -> Result<(), AllocError>
     ensures { OnOk result ((other : SymValue) → looked_up items.new other ≡
         option_or (looked_up items.old other) (first_standing other (map of_func funcs.now))) }
 {

@@ -1,4 +1,4 @@
-use Rattle.std.proofs.Common.{◌≡◌, ◌∙◌, ap, ℕ, List, map}
+use Rattle.std.proofs.Common.{◌∙◌, ap, ℕ, List, map}
 use Rattle.std.specs.Prelude.{nat_eq}
 use Rattle.std.specs.Map.{lookup}
 use Rattle.std.specs.Option.{option_map, option_or}
@@ -17,7 +17,7 @@ returns c name =
     let globals = looked_up c.enter_globals.new.items name in
     let declares = looked_up c.enter_declares.new.items name in
     all_entered c.args.m.now name before globals declares (looked_up c.enter_funcs.new.items name)
-      (ap (λ (es : List (ℕ × Item)). option_map told (lookup (nat_eq name.0) es)) c.new-items.ensures.empty)
-      (c.in_ok-enter_globals.ensures name ∙ ap (λ (gs : List GlobalVar). option_or before (first_standing name (map of_global gs))) c.globals.ensures)
-      (c.in_ok-enter_declares.ensures name ∙ ap (λ (ds : List Declare). option_or globals (first_standing name (map of_declare ds))) c.declares.ensures)
-      (c.in_ok-enter_funcs.ensures name ∙ ap (λ (fs : List FuncParts). option_or declares (first_standing name (map of_func fs))) c.funcs.ensures)
+    (ap (λ (es : List (ℕ × Item)). option_map told (lookup (nat_eq name.0) es)) c.new-items.ensures.empty)
+    (c.in_ok-enter_globals.ensures name ∙ ap (λ (gs : List GlobalVar). option_or before (first_standing name (map of_global gs))) c.globals.ensures)
+    (c.in_ok-enter_declares.ensures name ∙ ap (λ (ds : List Declare). option_or globals (first_standing name (map of_declare ds))) c.declares.ensures)
+    (c.in_ok-enter_funcs.ensures name ∙ ap (λ (fs : List FuncParts). option_or declares (first_standing name (map of_func fs))) c.funcs.ensures)
