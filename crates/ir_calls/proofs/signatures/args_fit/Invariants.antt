@@ -1,0 +1,9 @@
+use Rattle.std.proofs.Common.{◌≡◌, map, drop}
+use Rattle.ir_core.specs.declared.types.Ty.{Ty}
+use Rattle.ir_core.specs.declared.types.Loc.{Loc}
+use Rattle.ir_core.specs.declared.values.Val.{Val}
+use Rattle.ir_lines.specs.SameTypes.{same_types}
+use Rattle.ir_calls.proofs.signatures.args_fit.Given as goal
+
+abbrev pub invariant-loop-arg : goal.invariant-loop-arg
+invariant-loop-arg l = same_types (map (λ (arg : Ty × Val). arg.0) (drop l.arg-index l.args)) (map (λ (param : Ty × Loc). param.0) l.left) ≡ same_types (map (λ (arg : Ty × Val). arg.0) l.args) (map (λ (param : Ty × Loc). param.0) l.params)

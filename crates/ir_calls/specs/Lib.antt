@@ -1,0 +1,4 @@
+pub mod Externals
+pub mod Scalars
+pub mod Calls
+pub mod Standings
