@@ -83,6 +83,10 @@ abbrev pub is_label : Option Meaning → Bool
 is_label (Some Label) = true
 is_label other = false
 
+-- the name stands for a label
+abbrev pub names_label : List (Loc × Meaning) → Loc → Bool
+names_label names at = is_label (first_of names at)
+
 abbrev pub is_pair_of : Ty → Option Meaning → Bool
 is_pair_of ty (Some (Pair own)) = same_ty own ty
 is_pair_of ty other = false
@@ -122,7 +126,7 @@ typed_operands (insts.Rmw dst op ptr ty val) = (types.Ptr, ptr) ∷ (ty, val) �
 typed_operands (insts.CmpXchg dst ptr ty old new) = (types.Ptr, ptr) ∷ (ty, old) ∷ (ty, new) ∷ []
 typed_operands (insts.Call dst ret callee args) = args
 typed_operands (insts.Phi dst ty arms) = map (typed_arm ty) arms
-typed_operands (insts.CondBr cond yes no) = (types.Int W1, cond) ∷ []
+typed_operands (insts.CondBr cond on_true on_false) = (types.Int W1, cond) ∷ []
 typed_operands (insts.Switch ty on default cases) = (ty, on) ∷ []
 typed_operands (insts.Ret ty val) = typed_result ty val
 typed_operands inst = []
@@ -131,8 +135,8 @@ typed_operands inst = []
 abbrev pub labels_in : Inst → List Loc
 labels_in (insts.Phi dst ty arms) = map (λ arm. arm.1) arms
 labels_in (insts.Br to) = to ∷ []
-labels_in (insts.CondBr cond yes no) = yes ∷ no ∷ []
-labels_in (insts.Switch ty on default cases) = default ∷ map (λ case. case.1) cases
+labels_in (insts.CondBr cond on_true on_false) = on_true ∷ on_false ∷ []
+labels_in (insts.Switch ty on default cases) = default ∷ map (λ target. target.1) cases
 labels_in inst = []
 
 -- ---- single instructions
@@ -186,15 +190,18 @@ form_fits named names ret inst = true
 abbrev pub inst_fits : List (TypeId × Ty) → List (Loc × Meaning) → Ty → Inst → Bool
 inst_fits named names ret inst =
     list_all (operand_fits named names) (typed_operands inst)
-    && list_all (λ label. is_label (first_of names label)) (labels_in inst)
+    && list_all (names_label names) (labels_in inst)
     && form_fits named names ret inst
 
 -- ---- initialisers
 
--- bytes fit an array of just so many `i8`
-abbrev pub bytes_fit_step : List ℕ → Ty-F Ty → Bool
-bytes_fit_step bytes (Ty-F.Array count element) = nat_eq count (length bytes) && same_ty element (types.Int W8)
-bytes_fit_step bytes other = false
+-- a type is an array of just so many `i8`
+abbrev pub is_byte_array_step : ℕ → Ty-F Ty → Bool
+is_byte_array_step count (Ty-F.Array own element) = nat_eq own count && same_ty (types.Int W8) element
+is_byte_array_step count other = false
+
+abbrev pub is_byte_array : ℕ → Ty → Bool
+is_byte_array count ty = is_byte_array_step count (out-Ty ty)
 
 -- a part writes this type, and fits it
 abbrev pub part_fits : Ty → Ty × (Ty → Bool) → Bool
@@ -218,7 +225,7 @@ init_step named (Init-F.Int n) ty = is_int ty
 init_step named Init-F.Null ty = is_ptr ty
 init_step named (Init-F.Addr sym) ty = is_ptr ty
 init_step named (Init-F.Gep gep) ty = is_ptr ty && gep_fits named gep
-init_step named (Init-F.Bytes bytes) ty = bytes_fit_step bytes (out-Ty ty)
+init_step named (Init-F.Bytes bytes) ty = is_byte_array (length bytes) ty
 init_step named (Init-F.Parts parts) ty = parts_fit_step named parts ty (out-Ty ty)
 
 -- an initialiser fits a type
@@ -227,9 +234,12 @@ init_fits named = fold-Init (Ty → Bool) (init_step named)
 
 -- ---- lines
 
+abbrev pub has_no_parts : Ty → Bool
+has_no_parts ty = not (is_aggregate ty)
+
 -- no parameter and no result has parts
 abbrev pub signature_fits : Ty → List Ty → Bool
-signature_fits ret params = not (is_aggregate ret) && list_all (λ ty. not (is_aggregate ty)) params
+signature_fits ret params = has_no_parts ret && list_all has_no_parts params
 
 -- the types of a line of a module fit
 abbrev pub types_keep : ModuleParts → Line → Bool

@@ -29,15 +29,16 @@ impl<T> Model for Firsts<T> {
     ghost invariant = { λ f. ArePlaced f.entries.items f.places };
 }
 
-// The place of the first entry of each name.
+// The place of the first entry of each name. From the last entry on, so that an earlier one takes the place of a later one.
 fn places_of<T>(alloc: Global, entries: &[(Loc, T)]) -> Result<HashMap<u32, usize>, AllocError>
     ensures { IfOk result (λ places. ArePlaced entries.now places) }
 {
     let mut places = HashMap::new(alloc);
-    for (place, (at, _)) in entries.iter().enumerate() {
-        if !places.contains_key(&at.0) {
-            places.insert(at.0, place)?;
-        }
+    let mut left = entries.len();
+    'entries: while left > 0 {
+        left -= 1;
+        let (at, _) = &entries[left];
+        places.insert(at.0, left)?;
     }
     Ok(places)
 }

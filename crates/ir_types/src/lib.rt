@@ -6,6 +6,14 @@
 #![tactic(auto)]
 
 mod firsts;
+mod forms;
+mod initialisers;
+mod labels;
 mod meaning;
+mod operands;
+mod register_widths;
+mod rule;
 mod type_kinds;
 
+pub use register_widths::Widths;
+pub use rule::Types;

@@ -202,12 +202,20 @@ fn add_params<'m>(params: &'m [(Ty, Loc)], names: &mut Vec<(Loc, Meaning<'m>)>) 
     Ok(())
 }
 
-/// What the `%` names of a function stand for.
-pub(crate) fn names_of<'m>(alloc: Global, f: &'m Func) -> Result<Names<'m>, AllocError>
-    ensures { IfOk result (λ names. names ≡ meanings f.now) }
+/// What the `%` names of a function stand for, in the order of their definitions.
+pub(crate) fn meanings<'m>(alloc: Global, f: &'m Func) -> Result<Vec<(Loc, Meaning<'m>)>, AllocError>
+    ensures { IfOk result (λ names. names.items ≡ meanings f.now) }
 {
     let mut names = Vec::new(alloc);
     add_params(f.params(), &mut names)?;
     add_blocks(f.blocks(), &mut names)?;
+    Ok(names)
+}
+
+/// The same as a table.
+pub(crate) fn names_of<'m>(alloc: Global, f: &'m Func) -> Result<Names<'m>, AllocError>
+    ensures { IfOk result (λ names. names ≡ meanings f.now) }
+{
+    let names = meanings(alloc, f)?;
     Firsts::new(alloc, names)
 }

@@ -10,7 +10,7 @@ use ir_lines::{same_ty, same_width};
 
 /// How many bits a width has.
 pub(crate) fn bits(width: Width) -> u32
-    ensures { result ≡ bits width }
+    ensures bits { result ≡ bits width }
     ensures small { result < 65 }
 {
     match width {
@@ -85,7 +85,7 @@ pub(crate) fn is_pair_type(ty: &Ty, of: &Ty) -> bool
 
 /// How many bits a word of a type has, and 0 for a type that has no word.
 pub(crate) fn word_bits(ty: &Ty) -> u32
-    ensures { result ≡ word_bits ty.now }
+    ensures bits { result ≡ word_bits ty.now }
     ensures small { result < 65 }
 {
     match ty {
