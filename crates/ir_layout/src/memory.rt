@@ -1,7 +1,8 @@
 //! What a layout answers.
 ghost use Rattle.std.specs.Prelude.{◌≡◌, None};
 ghost use Rattle.ir_layout.specs.Shapes.{size_of};
-ghost use Rattle.ir_layout.specs.Offsets.{offset_of};
+ghost use Rattle.std.specs.Option.{option_map, option_copied};
+ghost use Rattle.ir_layout.specs.Offsets.{entered, fields, offset_of};
 ghost use Rattle.ir_layout.specs.Memory.{address_of, is_valid, AreAddresses, AreApart};
 ghost use Rattle.ir_layout.specs.Limits.{limit_of, limit_among};
 ghost use Rattle.ir_layout.specs.WrittenTypes.{types_in_declare, types_in_head, types_in_inst};
@@ -98,6 +99,22 @@ impl Layout {
         ensures { result ≡ offset_of self.now.types base.now index.now }
     {
         offsets::offset(&self.types, base, index)
+    }
+
+    /// The type that an index goes into, or `None` exactly where it fits nothing there.
+    pub fn entered<'a>(&'a self, ty: &'a Ty, index: (Width, u64)) -> Option<&'a Ty>
+        ensures { option_copied result ≡ option_map (λ step. step.0) (entered self.now.types index ty.now) }
+    {
+        let (width, n) = index;
+        let (inner, _) = offsets::entered(&self.types, ty, width, n)?;
+        Some(inner)
+    }
+
+    /// The fields of a struct, named or not, or `None` for any other type.
+    pub fn fields<'a>(&'a self, ty: &'a Ty) -> Option<&'a [Ty]>
+        ensures { option_copied result ≡ fields self.now.types ty.now }
+    {
+        offsets::fields(&self.types, ty)
     }
 
     /// Whether an access of so many bytes at an address is valid.

@@ -45,8 +45,8 @@ fn own_fields(ty: &Ty) -> Option<&[Ty]>
     }
 }
 
-// The fields of a struct, and of one that has a name.
-fn fields<'a>(types: &'a TypeTable, ty: &'a Ty) -> Option<&'a [Ty]>
+/// The fields of a struct, and of one that has a name.
+pub(crate) fn fields<'a>(types: &'a TypeTable, ty: &'a Ty) -> Option<&'a [Ty]>
     ensures { option_copied result ≡ fields types.now ty.now }
 {
     match ty {
@@ -87,8 +87,8 @@ fn whole_values(types: &TypeTable, ty: &Ty, width: Width, n: u64) -> u64
     signed_word(width, n).wrapping_mul(types.known_shape(ty).size)
 }
 
-// The type that an index goes into, and how many bytes further that stands.
-fn entered<'a>(types: &'a TypeTable, ty: &'a Ty, width: Width, n: u64) -> Option<(&'a Ty, u64)>
+/// The type that an index goes into, and how many bytes further that stands.
+pub(crate) fn entered<'a>(types: &'a TypeTable, ty: &'a Ty, width: Width, n: u64) -> Option<(&'a Ty, u64)>
     ensures { Reaches (entered types.now (width, n) ty.now) result }
 {
     match ty {

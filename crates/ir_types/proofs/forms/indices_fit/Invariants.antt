@@ -1,0 +1,7 @@
+use Rattle.std.proofs.Common.{◌≡◌, ◌++◌, List, map, drop}
+use Rattle.std.specs.List.{list_all}
+use Rattle.ir_types.specs.Types.{enter, indices_fit}
+use Rattle.ir_types.proofs.forms.indices_fit.Given as goal
+
+abbrev pub invariant-loop-index : goal.invariant-loop-index
+invariant-loop-index l = enter l.layout.types l.at (drop l.index-index l.further) ≡ indices_fit l.layout.types l.base l.indices

@@ -1,0 +1,7 @@
+use Rattle.std.proofs.Common.{◌≡◌, ◌++◌, List, map, drop}
+use Rattle.std.specs.List.{list_all}
+use Rattle.ir_types.specs.Types.{operand_fits, typed_arm}
+use Rattle.ir_types.proofs.operands.Scope.arms_fit.Given as goal
+
+abbrev pub invariant-loop-val : goal.invariant-loop-val
+invariant-loop-val l = list_all (operand_fits l.self.layout.now.types l.self.names.now) (map (typed_arm l.ty) (drop l.val-index l.arms)) ≡ list_all (operand_fits l.self.layout.now.types l.self.names.now) (map (typed_arm l.ty) l.arms)

@@ -1,0 +1,5 @@
+pub mod Firsts
+pub mod Meanings
+pub mod Tables
+pub mod Types
+pub mod Kinds
