@@ -1,5 +1,6 @@
 -- What the first of lines tells.
 use Rattle.std.proofs.Common.{◌≡◌, ◌∙◌, ap, refl, sym, List, [], ◌∷◌, ◌++◌, Bool, not, Option, Some, None, find}
+use Rattle.std.specs.Prelude.{if◌then◌else◌}
 use Rattle.std.specs.Option.{option_or}
 use Rattle.ir_lines.specs.Lines.{Line, told_at, first_told}
 use Rattle.ir_lines.specs.declared.site.Site.{Site}
@@ -15,3 +16,16 @@ first_unknown_append known [] ys = refl
 first_unknown_append known (x ∷ xs) ys =
     let here : Option (Site × Named) = told_at x (first_strange known (mentions_in x)) in
     ap (option_or here) (first_unknown_append known xs ys) ∙ or-assoc here (first_unknown known xs) (first_unknown known ys)
+
+strange-alike : (f g : Named → Bool) → ((name : Named) → f name ≡ g name) → (names : List Named) → first_strange f names ≡ first_strange g names
+strange-alike f g same [] = refl
+strange-alike f g same (name ∷ names) =
+    ap (λ (b : Bool). if not b then Some name else first_strange f names) (same name)
+    ∙ ap (λ (o : Option Named). if not (g name) then Some name else o) (strange-alike f g same names)
+
+-- who knows the same names tells the same
+pub unknown-alike : (f g : Named → Bool) → ((name : Named) → f name ≡ g name) → (lines : List Line) → first_unknown f lines ≡ first_unknown g lines
+unknown-alike f g same [] = refl
+unknown-alike f g same (line ∷ lines) =
+    ap (λ (o : Option Named). option_or (told_at line o) (first_unknown f lines)) (strange-alike f g same (mentions_in line))
+    ∙ ap (option_or (told_at line (first_strange g (mentions_in line)))) (unknown-alike f g same lines)
