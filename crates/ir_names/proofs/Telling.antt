@@ -17,11 +17,11 @@ first_unknown_append known (x ∷ xs) ys =
     let here : Option (Site × Named) = told_at x (first_strange known (mentions_in x)) in
     ap (option_or here) (first_unknown_append known xs ys) ∙ or-assoc here (first_unknown known xs) (first_unknown known ys)
 
-strange-alike : (f g : Named → Bool) → ((name : Named) → f name ≡ g name) → (names : List Named) → first_strange f names ≡ first_strange g names
+strange-alike : (f g : Named → Bool) → ((name : Named) → f name ≡ g name) → (mentioned : List Named) → first_strange f mentioned ≡ first_strange g mentioned
 strange-alike f g same [] = refl
-strange-alike f g same (name ∷ names) =
-    ap (λ (b : Bool). if not b then Some name else first_strange f names) (same name)
-    ∙ ap (λ (o : Option Named). if not (g name) then Some name else o) (strange-alike f g same names)
+strange-alike f g same (name ∷ more) =
+    ap (λ (b : Bool). if not b then Some name else first_strange f more) (same name)
+    ∙ ap (λ (o : Option Named). if not (g name) then Some name else o) (strange-alike f g same more)
 
 -- who knows the same names tells the same
 pub unknown-alike : (f g : Named → Bool) → ((name : Named) → f name ≡ g name) → (lines : List Line) → first_unknown f lines ≡ first_unknown g lines

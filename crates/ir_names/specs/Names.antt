@@ -13,25 +13,25 @@ use Rattle.ir_numbering.specs.declared.places.Place.TheVariants.{Local, Struct, 
 use Rattle.ir_lines.specs.Lines.{Line, TypeLine, GlobalLine, DeclareLine, HeadLine, BlockLine, InstLine, site_of, lines_of, first_told}
 use Rattle.ir_lines.specs.declared.site.Site.{Site}
 use Rattle.ir_lines.specs.declared.site.Named.{Named}
-use Rattle.ir_lines.specs.declared.site.Named.TheVariants.{Type, Sym, Loc}
+use Rattle.ir_lines.specs.declared.site.Named.TheVariants as names
 
 -- `%` names are the same only where they are of one function
 abbrev pub same_name : Named → Named → Bool
-same_name (Type id) (Type other) = nat_eq id.0 other.0
-same_name (Sym sym) (Sym other) = nat_eq sym.0 other.0
-same_name (Loc n at) (Loc m other) = nat_eq n m && nat_eq at.0 other.0
+same_name (names.Type id) (names.Type other) = nat_eq id.0 other.0
+same_name (names.Sym sym) (names.Sym other) = nat_eq sym.0 other.0
+same_name (names.Loc n at) (names.Loc m other) = nat_eq n m && nat_eq at.0 other.0
 same_name name other = false
 
 -- ---- definitions
 
 -- the names that a line defines, in the order in which it writes them
 abbrev pub defined_in : Line → List Named
-defined_in (TypeLine named) = Type named.0 ∷ []
-defined_in (GlobalLine global) = Sym global.sym ∷ []
-defined_in (DeclareLine declare) = Sym declare.sym ∷ []
-defined_in (HeadLine n f) = Sym f.sym ∷ map (λ param. Loc n param.1) f.params
-defined_in (BlockLine n f b block) = Loc n block.label ∷ []
-defined_in (InstLine n f b i inst) = cons_option (option_map (Loc n) (result_of inst)) []
+defined_in (TypeLine named) = names.Type named.0 ∷ []
+defined_in (GlobalLine global) = names.Sym global.sym ∷ []
+defined_in (DeclareLine declare) = names.Sym declare.sym ∷ []
+defined_in (HeadLine n f) = names.Sym f.sym ∷ map (λ param. names.Loc n param.1) f.params
+defined_in (BlockLine n f b block) = names.Loc n block.label ∷ []
+defined_in (InstLine n f b i inst) = cons_option (option_map (names.Loc n) (result_of inst)) []
 
 -- the same, each with the site where it stands
 abbrev pub definitions_in : Line → List (Site × Named)
@@ -56,9 +56,9 @@ duplicate m = first_again [] (definitions m)
 
 -- the name at a place of a tree; inside the function with this number, if the tree has `%` names
 abbrev pub name_at : ℕ → Place → Named
-name_at n (Local at) = Loc n at
-name_at n (Struct id) = Type id
-name_at n (Global sym) = Sym sym
+name_at n (Local at) = names.Loc n at
+name_at n (Struct id) = names.Type id
+name_at n (Global sym) = names.Sym sym
 
 -- The names that a line mentions, as it writes them. A block's line has its label alone, which it defines.
 abbrev pub mentions_in : Line → List Named
@@ -71,7 +71,7 @@ mentions_in (InstLine n f b i inst) = map (name_at n) (places_of_inst inst)
 
 -- the first of the names that isn't known
 abbrev pub first_strange : (Named → Bool) → List Named → Option Named
-first_strange known names = find (λ name. not (known name)) names
+first_strange known mentioned = find (λ name. not (known name)) mentioned
 
 -- the first name that lines mention and that isn't known, where that stands
 abbrev pub first_unknown : (Named → Bool) → List Line → Option (Site × Named)

@@ -4,7 +4,7 @@ use Rattle.std.specs.List.{list_any}
 use Rattle.std.specs.HashSet.{contains}
 use Rattle.ir_lines.specs.declared.site.Site.{Site}
 use Rattle.ir_lines.specs.declared.site.Named.{Named}
-use Rattle.ir_lines.specs.declared.site.Named.TheVariants.{Type, Sym, Loc}
+use Rattle.ir_lines.specs.declared.site.Named.TheVariants as names
 use Rattle.ir_names.specs.Names.{same_name}
 use Rattle.ir_names.specs.declared.name_set.NameSet.{NameSet}
 
@@ -13,9 +13,9 @@ same_pair a b = nat_eq a.0 b.0 && nat_eq a.1 b.1
 
 -- whether a set has a name
 abbrev pub has_name : NameSet → Named → Bool
-has_name set (Type id) = contains nat_eq set.types id.0
-has_name set (Sym sym) = contains nat_eq set.syms sym.0
-has_name set (Loc n at) = contains same_pair set.locs (n, at.0)
+has_name set (names.Type id) = contains nat_eq set.types id.0
+has_name set (names.Sym sym) = contains nat_eq set.syms sym.0
+has_name set (names.Loc n at) = contains same_pair set.locs (n, at.0)
 
 -- the set has exactly the names of these definitions
 abbrev pub HasNamesOf : List (Site × Named) → NameSet → Type 0

@@ -1,7 +1,7 @@
 //! The first name that is mentioned and nowhere defined.
 ghost use Rattle.std.specs.Prelude.{◌≡◌, map, IfOk};
 ghost use Rattle.ir_numbering.specs.Places.{places_of_head};
-ghost use Rattle.ir_lines.specs.Lines.{TypeLine, GlobalLine, DeclareLine, HeadLine, inst_lines, block_lines, func_lines, funcs_lines, lines_of};
+ghost use Rattle.ir_lines.specs.Lines.{TypeLine, GlobalLine, DeclareLine, HeadLine, inst_lines, blocks_lines, func_lines, funcs_lines, lines_of};
 ghost use Rattle.ir_lines.specs.declared.site.Named as named;
 ghost use Rattle.ir_names.specs.Names as names;
 ghost use Rattle.ir_names.specs.Names.{name_at, first_strange, first_unknown};
@@ -122,7 +122,7 @@ fn in_insts(alloc: Global, n: usize, f: &Func, b: usize, insts: &[Inst], known: 
 #[tactic(auto, using(crate::proofs::Telling::first_unknown_append))]
 // What a function's blocks tell.
 fn in_blocks(alloc: Global, n: usize, f: &Func, blocks: &[Block], known: &NameSet) -> Told
-    ensures { IfOk result (λ found. found ≡ first_unknown (has_name known.now) (block_lines n f.now 0 blocks.now)) }
+    ensures { IfOk result (λ found. found ≡ first_unknown (has_name known.now) (blocks_lines n f.now 0 blocks.now)) }
 {
     for (b, block) in blocks.iter().enumerate() {
         if let Some(told) = in_insts(alloc, n, f, b, block.insts.items(), known)? {

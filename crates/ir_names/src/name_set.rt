@@ -34,12 +34,11 @@ impl NameSet {
         ensures added { (other : named.Named) →
             OnOk result (has_name self.new other ≡ (has_name self.old other || same_name other name)) }
     {
-        let lacked = match name {
-            Named::Type(id) => self.types.insert(id.0)?,
-            Named::Sym(sym) => self.syms.insert(sym.0)?,
-            Named::Loc { func, at } => self.locs.insert((func, at.0))?,
-        };
-        Ok(lacked)
+        match name {
+            Named::Type(id) => Ok(self.types.insert(id.0)?),
+            Named::Sym(sym) => Ok(self.syms.insert(sym.0)?),
+            Named::Loc { func, at } => Ok(self.locs.insert((func, at.0))?),
+        }
     }
 
     /// Whether the set has a name.
