@@ -1,0 +1,4 @@
+pub mod Adding
+pub mod Collecting
+pub mod Telling
+pub mod Again
