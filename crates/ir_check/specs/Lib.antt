@@ -3,3 +3,4 @@ pub mod CodeLimits
 pub mod Blocks
 pub mod Functions
 pub mod Flows
+pub mod Faults

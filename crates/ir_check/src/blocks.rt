@@ -8,6 +8,7 @@ use ir_core::{Block, Declare, Func, GlobalVar, Inst, Module};
 use ir_flow::edges;
 use ir_lines::Rule;
 use std::alloc::{AllocError, Global};
+use std::marker::Model;
 
 // Whether an instruction ends a block.
 fn is_terminator(inst: &Inst) -> bool
@@ -119,8 +120,8 @@ fn enters(alloc: Global, f: &Func) -> Result<bool, AllocError>
     Ok(false)
 }
 
-/// For each function whether some edge leads to its entry.
-pub(crate) fn entered_functions(alloc: Global, m: &Module) -> Result<Vec<bool>, AllocError>
+// For each function whether some edge leads to its entry.
+fn entered_functions(alloc: Global, m: &Module) -> Result<Vec<bool>, AllocError>
     ensures { IfOk result (λ entered. entered.items ≡ map enters m.now.funcs) }
 {
     let mut entered = Vec::with_capacity(alloc, m.funcs().len())?;
@@ -129,4 +130,66 @@ pub(crate) fn entered_functions(alloc: Global, m: &Module) -> Result<Vec<bool>, 
         entered.push(told)?;
     }
     Ok(entered)
+}
+
+/// The rule that no edge leads to the entry of a function. Contracts see its module.
+#[derive(Drop)]
+pub(crate) struct Entries<'m> {
+    module: &'m Module,
+    entered: Vec<bool>,
+}
+
+impl Model for Entries<'_> {
+    ghost use Rattle.std.specs.Prelude.{◌≡◌, map};
+    ghost use Rattle.std.specs.Coded.{codes};
+    ghost use Rattle.ir_core.specs.contracts.types.Ty as ty;
+    ghost use Rattle.ir_core.specs.contracts.values.Init as init;
+    ghost use Rattle.ir_core.specs.Module.{ModuleParts};
+    ghost use Rattle.ir_check.specs.Blocks.{enters};
+
+    ghost Value = { ModuleParts };
+
+    ghost coded = { Prim.hlevel (codes, ty.the_row.coded, init.the_row.coded) };
+
+    ghost view = { λ e. e.module.now };
+
+    ghost invariant = { λ e. e.entered.items ≡ map enters e.module.now.funcs };
+}
+
+impl<'m> Entries<'m> {
+    /// The rule for a module.
+    pub(crate) fn new(alloc: Global, module: &'m Module) -> Result<Entries<'m>, AllocError>
+        ensures { IfOk result (λ e. e ≡ module.now) }
+    {
+        let entered = entered_functions(alloc, module)?;
+        Ok(Entries { module, entered })
+    }
+}
+
+impl Rule for Entries<'_> {
+    ghost use Rattle.ir_check.specs.Blocks.{entries_keep};
+
+    ghost module_of = { λ entries. entries };
+
+    ghost keeps = { λ entries line. entries_keep line };
+
+    fn global(&self, _global: &GlobalVar) -> bool {
+        true
+    }
+
+    fn declare(&self, _declare: &Declare) -> bool {
+        true
+    }
+
+    fn head(&self, _n: usize, _f: &Func) -> bool {
+        true
+    }
+
+    fn block(&self, n: usize, _f: &Func, b: usize, _block: &Block) -> bool {
+        !(b == 0 && self.entered.get(n).copied().unwrap_or(false))
+    }
+
+    fn inst(&self, _n: usize, _f: &Func, _b: usize, _i: usize, _inst: &Inst) -> bool {
+        true
+    }
 }
