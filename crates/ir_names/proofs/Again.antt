@@ -5,10 +5,16 @@ use Rattle.std.specs.List.{list_any}
 use Rattle.std.proofs.lemmas.List.{take_more, map-append}
 use Rattle.std.proofs.lemmas.List.Folds.{list_any-append}
 use Rattle.ir_lines.specs.declared.site.Site.{Site}
+use Rattle.ir_lines.specs.declared.site.Site.TheVariants as sites
 use Rattle.ir_lines.specs.declared.site.Named.{Named}
+use Rattle.ir_lines.specs.declared.site.Named.TheVariants as kinds
 use Rattle.ir_names.specs.Names.{same_name, first_again}
 use Rattle.ir_names.specs.Sets.{has_name, HasNamesOf}
 use Rattle.ir_names.specs.declared.name_set.NameSet.{NameSet}
+
+-- what stands past the end of definitions
+abbrev pub past : Site × Named
+past = (sites.Type record { 0 = 0 }, kinds.Type record { 0 = 0 })
 
 abbrev names : List (Site × Named) → List Named
 names defs = map (λ d. d.1) defs

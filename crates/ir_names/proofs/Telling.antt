@@ -1,5 +1,5 @@
 -- What the first of lines tells.
-use Rattle.std.proofs.Common.{◌≡◌, ◌∙◌, ap, refl, sym, ℕ, suc, ◌+◌, ◌<◌, arith, List, [], ◌∷◌, ◌++◌, drop, drop-cons, length, get_or, Bool, not, Option, Some, None}
+use Rattle.std.proofs.Common.{◌≡◌, ◌∙◌, ap, refl, ℕ, suc, ◌+◌, ◌<◌, arith, List, [], ◌∷◌, ◌++◌, drop, drop-cons, length, get_or, Bool, not, Option, Some, None}
 use Rattle.std.specs.Prelude.{if◌then◌else◌}
 use Rattle.std.specs.Option.{option_or}
 use Rattle.ir_core.specs.declared.instruction.Block.{Block}
@@ -30,13 +30,6 @@ at-block known n f b blocks block inside at =
 pub at-func : (known : Named → Bool) (n : ℕ) (funcs : List FuncParts) (f : FuncParts) → n < length funcs → f ≡ get_or funcs n f → first_unknown known (funcs_lines n (drop n funcs)) ≡ option_or (first_unknown known (func_lines n f)) (first_unknown known (funcs_lines (n + 1) (drop (n + 1) funcs)))
 at-func known n funcs f inside at =
     ap (λ (rest : List FuncParts). first_unknown known (funcs_lines n rest)) (drop_at funcs n f inside at) ∙ first_unknown_append known (func_lines n f) (funcs_lines (n + 1) (drop (n + 1) funcs))
-
--- where something is told, it is the first; where nothing is, the rest decides
-pub told-first : {A : Type 0} (all now later : Option A) (x : A) → all ≡ option_or now later → now ≡ Some x → Some x ≡ all
-told-first all now later x e told = sym (e ∙ ap (λ (o : Option _). option_or o later) told)
-
-pub none-yet : {A : Type 0} (all now later : Option A) → all ≡ option_or now later → now ≡ None → later ≡ all
-none-yet all now later e told = sym (e ∙ ap (λ (o : Option _). option_or o later) told)
 
 strange-alike : (f g : Named → Bool) → ((name : Named) → f name ≡ g name) → (mentioned : List Named) → first_strange f mentioned ≡ first_strange g mentioned
 strange-alike f g same [] = refl

@@ -1,16 +1,9 @@
 use Rattle.std.proofs.Common.{◌≡◌, ◌∙◌, sym, true, false}
 use Rattle.std.specs.Prelude.{slice_index_or}
-use Rattle.ir_lines.specs.declared.site.Site.{Site}
-use Rattle.ir_lines.specs.declared.site.Site.TheVariants as sites
 use Rattle.ir_lines.specs.declared.site.Named.{Named}
-use Rattle.ir_lines.specs.declared.site.Named.TheVariants as names
 use Rattle.ir_names.specs.Sets.{has_name}
-use Rattle.ir_names.proofs.Again.{set-more, again-here, again-later, not-false, not-true}
+use Rattle.ir_names.proofs.Again.{past, set-more, again-here, again-later, not-false, not-true}
 use Rattle.ir_names.proofs.duplicates.first_again.Goals as goal
-
--- what stands past the end
-abbrev past : Site × Named
-past = (sites.Type record { 0 = 0 }, names.Type record { 0 = 0 })
 
 pub returns-then-not-branch : goal.returns-then-not-branch
 returns-then-not-branch c =

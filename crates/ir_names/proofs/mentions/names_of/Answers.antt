@@ -1,16 +1,10 @@
-use Rattle.std.proofs.Common.{List, take, subst}
+use Rattle.std.proofs.Common.{List, subst}
 use Rattle.std.proofs.lemmas.List.{take_all}
 use Rattle.ir_lines.specs.declared.site.Site.{Site}
-use Rattle.ir_lines.specs.declared.site.Site.TheVariants as sites
 use Rattle.ir_lines.specs.declared.site.Named.{Named}
-use Rattle.ir_lines.specs.declared.site.Named.TheVariants as names
 use Rattle.ir_names.specs.Sets.{HasNamesOf}
-use Rattle.ir_names.proofs.Again.{set-more}
+use Rattle.ir_names.proofs.Again.{past, set-more}
 use Rattle.ir_names.proofs.mentions.names_of.Goals as goal
-
--- what stands past the end
-abbrev past : Site × Named
-past = (sites.Type record { 0 = 0 }, names.Type record { 0 = 0 })
 
 pub loop-name-preserved : goal.loop-name-preserved
 loop-name-preserved c = set-more c.args.definitions.now c.loop-name.name-index past c.loop-name.set c.insert.new.self c.loop-name-test.true c.in_ok-insert.ensures.added c.loop-name.invariant

@@ -1,4 +1,4 @@
-use Rattle.std.proofs.Common.{◌≡◌, ◌∙◌, ap, refl, sym, ◌||◌}
+use Rattle.std.proofs.Common.{◌∙◌, ap, refl, sym, ◌||◌}
 use Rattle.ir_lines.specs.declared.site.Named.{Named}
 use Rattle.ir_names.specs.Names.{same_name}
 use Rattle.ir_names.specs.Sets.{has_name}
