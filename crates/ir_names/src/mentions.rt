@@ -191,6 +191,5 @@ pub fn unknown(alloc: Global, m: &Module) -> Result<Option<(Site, Named)>, Alloc
 {
     let definitions = definitions(alloc, m)?;
     let known = names_of(alloc, definitions.items())?;
-    let told = in_module(alloc, m, &known)?;
-    Ok(told)
+    in_module(alloc, m, &known)
 }
