@@ -54,11 +54,11 @@ first_standing sym named = lookup (λ other. nat_eq other.0 sym.0) named
 abbrev pub standing_of : ModuleParts → Sym → Option Standing
 standing_of m sym = first_standing sym (standings m)
 
+-- a function
 abbrev pub is_callable : Option Standing → Bool
-is_callable None = false
-is_callable (Some Variable) = false
 is_callable (Some (Declared signature)) = true
 is_callable (Some (Defined signature)) = true
+is_callable other = false
 
 -- the name is a function's
 abbrev pub is_function : ModuleParts → Sym → Bool
@@ -72,11 +72,9 @@ external_named m sym = external_of (slice_index_or m.syms sym.0 [])
 
 -- the value isn't a function's name, nor an address computed from one
 abbrev pub is_plain : ModuleParts → Val → Bool
-is_plain m (values.Reg at) = true
-is_plain m (values.Int n) = true
-is_plain m values.Null = true
 is_plain m (values.Global sym) = not (is_function m sym)
 is_plain m (values.Gep gep) = not (is_function m gep.sym)
+is_plain m other = true
 
 abbrev pub are_plain : ModuleParts → List Val → Bool
 are_plain m vals = list_all (is_plain m) vals
@@ -110,13 +108,10 @@ values_of insts.Unreachable = []
 
 -- one layer of an initialiser, its parts' answers given
 abbrev pub plain_step : ModuleParts → Init-F Bool → Bool
-plain_step m Init-F.Zero = true
-plain_step m (Init-F.Int n) = true
-plain_step m Init-F.Null = true
 plain_step m (Init-F.Addr sym) = not (is_function m sym)
 plain_step m (Init-F.Gep gep) = not (is_function m gep.sym)
-plain_step m (Init-F.Bytes bytes) = true
 plain_step m (Init-F.Parts parts) = list_all (λ part. part.1) parts
+plain_step m other = true
 
 -- no function's name stands in the initialiser
 abbrev pub is_plain_init : ModuleParts → Init → Bool
@@ -126,56 +121,45 @@ is_plain_init m = fold-Init Bool (plain_step m)
 
 -- the callee is a function of the types that the call writes
 abbrev pub takes : Option Standing → Ty → List Ty → Bool
-takes None ret args = false
-takes (Some Variable) ret args = false
 takes (Some (Declared signature)) ret args = has_signature ret args signature
 takes (Some (Defined signature)) ret args = has_signature ret args signature
+takes other ret args = false
 
--- a call without a result names none
+-- a call without a result has no name for it
 abbrev pub result_keeps : Option Loc → Ty → Bool
 result_keeps None ret = true
 result_keeps (Some dst) ret = not (same_ty ret types.Void)
 
 abbrev pub is_null : Val → Bool
-is_null (values.Reg at) = false
-is_null (values.Int n) = false
 is_null values.Null = true
-is_null (values.Global sym) = false
-is_null (values.Gep gep) = false
+is_null other = false
 
+-- the second argument is `null`
 abbrev pub second_is_null : List (Ty × Val) → Bool
-second_is_null [] = false
-second_is_null (first ∷ []) = false
 second_is_null (first ∷ second ∷ rest) = is_null second.1
+second_is_null args = false
 
 -- what a thread runs: a function of the module from `ptr` to `ptr`
 abbrev pub start_signature : Signature
 start_signature = record { result = types.Ptr; params = types.Ptr ∷ [] }
 
 abbrev pub is_start : Option Standing → Bool
-is_start None = false
-is_start (Some Variable) = false
-is_start (Some (Declared signature)) = false
 is_start (Some (Defined signature)) = has_signature signature.result signature.params start_signature
+is_start other = false
 
 abbrev pub names_start : ModuleParts → Val → Bool
-names_start m (values.Reg at) = false
-names_start m (values.Int n) = false
-names_start m values.Null = false
 names_start m (values.Global sym) = is_start (standing_of m sym)
-names_start m (values.Gep gep) = false
+names_start m other = false
 
+-- the third argument names such a function
 abbrev pub third_is_start : ModuleParts → List (Ty × Val) → Bool
-third_is_start m [] = false
-third_is_start m (first ∷ []) = false
-third_is_start m (first ∷ second ∷ []) = false
 third_is_start m (first ∷ second ∷ third ∷ rest) = names_start m third.1
+third_is_start m args = false
 
+-- the other arguments
 abbrev pub without_third : List (Ty × Val) → List (Ty × Val)
-without_third [] = []
-without_third (first ∷ []) = first ∷ []
-without_third (first ∷ second ∷ []) = first ∷ second ∷ []
 without_third (first ∷ second ∷ third ∷ rest) = first ∷ second ∷ rest
+without_third args = args
 
 -- what a callee asks of its arguments by its name
 abbrev pub args_keep : ModuleParts → Option External → List (Ty × Val) → Bool
@@ -183,12 +167,14 @@ args_keep m (Some PthreadCreate) args = second_is_null args && third_is_start m 
 args_keep m (Some PthreadJoin) args = second_is_null args && args_plain m args
 args_keep m other args = args_plain m args
 
+-- a call is good
 abbrev pub call_keeps : ModuleParts → Option Loc → Ty → Sym → List (Ty × Val) → Bool
 call_keeps m dst ret callee args =
     takes (standing_of m callee) ret (map (λ arg. arg.0) args) && result_keeps dst ret && args_keep m (external_named m callee) args
 
 -- ---- lines
 
+-- an instruction is a good call, or no function's name stands in it
 abbrev pub inst_keeps : ModuleParts → Inst → Bool
 inst_keeps m (insts.Call dst ret callee args) = call_keeps m dst ret callee args
 inst_keeps m inst = are_plain m (values_of inst)

@@ -35,6 +35,8 @@ i32 = types.Int W32
 abbrev pub i64 : Ty
 i64 = types.Int W64
 
+-- thread, attributes, what it runs and what that is given; thread and where its result goes; a lock; a byte; a status;
+-- a size; an address; a number; the number of an argument
 abbrev pub signature_of : External → Signature
 signature_of PthreadCreate = record { result = i32; params = types.Ptr ∷ types.Ptr ∷ types.Ptr ∷ types.Ptr ∷ [] }
 signature_of PthreadJoin = record { result = i32; params = i64 ∷ types.Ptr ∷ [] }

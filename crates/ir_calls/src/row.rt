@@ -37,7 +37,8 @@ impl<'m> Model for Calls<'m> {
 }
 
 impl<'m> Calls<'m> {
-    /// The module with its table. It takes memory for one item a global, a declare and a function.
+    /// The module with its table, which has at most one item a global, a declare and a function.
+    /// The error is want of memory.
     pub fn new(alloc: Global, m: &'m Module) -> Result<Calls<'m>, AllocError>
         ensures { IfOk result (λ c. c ≡ m.now) }
     {
