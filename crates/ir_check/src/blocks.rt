@@ -139,7 +139,7 @@ pub(crate) struct Entries<'m> {
     entered: Vec<bool>,
 }
 
-impl Model for Entries<'_> {
+impl<'m> Model for Entries<'m> {
     ghost use Rattle.std.specs.Prelude.{◌≡◌, map};
     ghost use Rattle.std.specs.Coded.{codes};
     ghost use Rattle.ir_core.specs.contracts.types.Ty as ty;
