@@ -213,10 +213,15 @@ fields_fit [] [] = true
 fields_fit (field ∷ types) (part ∷ parts) = part_fits field part && fields_fit types parts
 fields_fit types parts = false
 
--- parts fit an array of as many elements, or a struct of as many fields
-abbrev pub parts_fit_step : List (TypeId × Ty) → List (Ty × (Ty → Bool)) → Ty → Ty-F Ty → Bool
-parts_fit_step named parts ty (Ty-F.Array count element) = nat_eq count (length parts) && list_all (part_fits element) parts
-parts_fit_step named parts ty other = holds_of (λ types. fields_fit types parts) (fields named ty)
+-- each part fits the element of an array, and there are as many
+abbrev pub elements_fit : List (Ty × (Ty → Bool)) → Ty-F Ty → Bool
+elements_fit parts (Ty-F.Array count element) = nat_eq count (length parts) && list_all (part_fits element) parts
+elements_fit parts other = false
+
+-- parts fit a struct of these fields, or a type that is no struct
+abbrev pub parts_fit : List (Ty × (Ty → Bool)) → Ty → Option (List Ty) → Bool
+parts_fit parts ty (Some types) = fields_fit types parts
+parts_fit parts ty None = elements_fit parts (out-Ty ty)
 
 -- one layer of an initialiser, with what its parts ask of their types
 abbrev pub init_step : List (TypeId × Ty) → Init-F (Ty → Bool) → Ty → Bool
@@ -226,7 +231,7 @@ init_step named Init-F.Null ty = is_ptr ty
 init_step named (Init-F.Addr sym) ty = is_ptr ty
 init_step named (Init-F.Gep gep) ty = is_ptr ty && gep_fits named gep
 init_step named (Init-F.Bytes bytes) ty = is_byte_array (length bytes) ty
-init_step named (Init-F.Parts parts) ty = parts_fit_step named parts ty (out-Ty ty)
+init_step named (Init-F.Parts parts) ty = parts_fit parts ty (fields named ty)
 
 -- an initialiser fits a type
 abbrev pub init_fits : List (TypeId × Ty) → Init → Ty → Bool
