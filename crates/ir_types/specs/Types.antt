@@ -3,9 +3,9 @@
 -- Choices: the result of a `cmpxchg` on T has the type `{ T, i1 }`. A constant has its type by its form: a number an integer type,
 -- all others `ptr`. A register in a further index of a `getelementptr` goes into an array and into no struct. Parts of an
 -- initialiser write their types, which are the element's or the fields'. Named types keep the rule whatever they are.
-use Rattle.std.specs.Prelude.{ℕ, Bool, true, false, not, ◌&&◌, List, [], ◌∷◌, ◌++◌, map, length, Option, Some, None, nat_eq, nat_lt}
+use Rattle.std.specs.Prelude.{ℕ, Bool, true, false, not, ◌&&◌, List, [], ◌∷◌, map, length, Option, Some, None, nat_eq, nat_lt}
 use Rattle.std.specs.List.{list_all}
-use Rattle.std.specs.Option.{option_map, option_and_then, is_some}
+use Rattle.std.specs.Option.{is_some}
 use Rattle.ir_core.specs.declared.types.Ty.{Ty}
 use Rattle.ir_core.specs.declared.types.Ty.TheOpen.{Ty-F}
 use Rattle.ir_core.specs.declared.types.Ty.TheVariants as types
@@ -13,7 +13,7 @@ use Rattle.ir_core.specs.declared.types.Ty.TheViews.{out-Ty}
 use Rattle.ir_core.specs.declared.types.Loc.{Loc}
 use Rattle.ir_core.specs.declared.types.TypeId.{TypeId}
 use Rattle.ir_core.specs.declared.types.Width.{Width}
-use Rattle.ir_core.specs.declared.types.Width.TheVariants.{W1, W8, W16, W32, W64}
+use Rattle.ir_core.specs.declared.types.Width.TheVariants.{W1, W8, W64}
 use Rattle.ir_core.specs.declared.values.ConstGep.{ConstGep}
 use Rattle.ir_core.specs.declared.values.Val.{Val}
 use Rattle.ir_core.specs.declared.values.Val.TheVariants as values
@@ -23,7 +23,7 @@ use Rattle.ir_core.specs.declared.instruction.CastOp.{CastOp}
 use Rattle.ir_core.specs.declared.instruction.CastOp.TheVariants.{Zext, Sext, Trunc, Ptrtoint, Inttoptr}
 use Rattle.ir_core.specs.declared.instruction.Inst.{Inst}
 use Rattle.ir_core.specs.declared.instruction.Inst.TheVariants as insts
-use Rattle.ir_core.specs.Module.{ModuleParts, FuncParts}
+use Rattle.ir_core.specs.Module.{ModuleParts}
 use Rattle.ir_layout.specs.Offsets.{fields, entered, offset_of}
 use Rattle.ir_lines.specs.Lines.{Line, TypeLine, GlobalLine, DeclareLine, HeadLine, BlockLine, InstLine}
 use Rattle.ir_lines.specs.SameTypes.{same_ty}

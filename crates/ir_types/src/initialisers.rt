@@ -18,7 +18,6 @@ fn is_byte_array(count: u64, ty: &Ty) -> bool
     }
 }
 
-#[tactic(auto, using(crate::proofs::Asked::lengths))]
 /// Whether an initialiser fits a type.
 pub(crate) fn init_fits(layout: &Layout, init: &Init, ty: &Ty) -> bool
     ensures { result ≡ init_fits layout.now.types init.now ty.now }

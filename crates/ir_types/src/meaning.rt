@@ -154,7 +154,12 @@ fn result_of<'m>(inst: &'m Inst) -> Option<(Loc, Meaning<'m>)>
         | Inst::Phi { dst, ty, .. } => Some((*dst, value(ty))),
         Inst::Gep { dst, .. } | Inst::Alloca { dst, .. } => Some((*dst, ptr())),
         Inst::CmpXchg { dst, ty, .. } => Some((*dst, pair(ty))),
-        Inst::Extract { dst, elem, index, .. } => Some((*dst, extracted(elem, *index))),
+        Inst::Extract {
+            dst,
+            elem,
+            index,
+            ..
+        } => Some((*dst, extracted(elem, *index))),
         Inst::Call { dst, ret, .. } => {
             let dst = (*dst)?;
             Some((dst, value(ret)))
@@ -182,7 +187,10 @@ fn add_results<'m>(insts: &'m [Inst], names: &mut Vec<(Loc, Meaning<'m>)>) -> Re
 }
 
 // Adds blocks, each with its label and its results.
-fn add_blocks<'m>(blocks: &'m [Block], names: &mut Vec<(Loc, Meaning<'m>)>) -> Result<(), AllocError>
+fn add_blocks<'m>(
+    blocks: &'m [Block],
+    names: &mut Vec<(Loc, Meaning<'m>)>,
+) -> Result<(), AllocError>
     ensures { OnOk result (names.new.items ≡ names.old.items ++ flat_map block_meanings blocks.now) }
 {
     for block in blocks {
@@ -193,7 +201,10 @@ fn add_blocks<'m>(blocks: &'m [Block], names: &mut Vec<(Loc, Meaning<'m>)>) -> R
 }
 
 // Adds parameters.
-fn add_params<'m>(params: &'m [(Ty, Loc)], names: &mut Vec<(Loc, Meaning<'m>)>) -> Result<(), AllocError>
+fn add_params<'m>(
+    params: &'m [(Ty, Loc)],
+    names: &mut Vec<(Loc, Meaning<'m>)>,
+) -> Result<(), AllocError>
     ensures { OnOk result (names.new.items ≡ names.old.items ++ map param_meaning params.now) }
 {
     for (ty, at) in params {
@@ -203,7 +214,10 @@ fn add_params<'m>(params: &'m [(Ty, Loc)], names: &mut Vec<(Loc, Meaning<'m>)>) 
 }
 
 /// What the `%` names of a function stand for, in the order of their definitions.
-pub(crate) fn meanings<'m>(alloc: Global, f: &'m Func) -> Result<Vec<(Loc, Meaning<'m>)>, AllocError>
+pub(crate) fn meanings<'m>(
+    alloc: Global,
+    f: &'m Func,
+) -> Result<Vec<(Loc, Meaning<'m>)>, AllocError>
     ensures { IfOk result (λ names. names.items ≡ meanings f.now) }
 {
     let mut names = Vec::new(alloc);

@@ -136,9 +136,13 @@ impl Scope<'_, '_> {
             Inst::Load { ptr, .. } => self.fits_ptr(ptr),
             Inst::Store { ty, val, ptr, .. } => self.fits(ty, val) && self.fits_ptr(ptr),
             Inst::Rmw { ptr, ty, val, .. } => self.fits_ptr(ptr) && self.fits(ty, val),
-            Inst::CmpXchg { ptr, ty, old, new, .. } => {
-                self.fits_ptr(ptr) && self.both_fit(ty, old, new)
-            }
+            Inst::CmpXchg {
+                ptr,
+                ty,
+                old,
+                new,
+                ..
+            } => { self.fits_ptr(ptr) && self.both_fit(ty, old, new) }
             Inst::Call { args, .. } => self.args_fit(args.items()),
             Inst::Phi { ty, arms, .. } => self.arms_fit(ty, arms.items()),
             Inst::CondBr { cond, .. } => self.fits_int(Width::W1, cond),

@@ -1,4 +1,4 @@
-use Rattle.std.proofs.Common.{◌≡◌, ◌++◌, List, map, drop}
+use Rattle.std.proofs.Common.{◌≡◌, drop}
 use Rattle.std.specs.List.{list_all}
 use Rattle.ir_types.specs.Types.{operand_fits}
 use Rattle.ir_types.proofs.operands.Scope.args_fit.Given as goal

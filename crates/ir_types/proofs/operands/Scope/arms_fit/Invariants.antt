@@ -1,4 +1,4 @@
-use Rattle.std.proofs.Common.{◌≡◌, ◌++◌, List, map, drop}
+use Rattle.std.proofs.Common.{◌≡◌, map, drop}
 use Rattle.std.specs.List.{list_all}
 use Rattle.ir_types.specs.Types.{operand_fits, typed_arm}
 use Rattle.ir_types.proofs.operands.Scope.arms_fit.Given as goal

@@ -1,4 +1,4 @@
-use Rattle.std.proofs.Common.{◌≡◌, ◌++◌, List, map, drop}
+use Rattle.std.proofs.Common.{◌≡◌, map, drop}
 use Rattle.std.specs.List.{list_all}
 use Rattle.ir_types.specs.Types.{operand_fits, typed_index}
 use Rattle.ir_types.proofs.operands.Scope.indices_fit.Given as goal

@@ -1,4 +1,4 @@
-use Rattle.std.proofs.Common.{◌≡◌, ap, ◌∙◌, rules}
+use Rattle.std.proofs.Common.{ap, ◌∙◌, rules}
 use Rattle.ir_types.specs.Tables.{width_at}
 use Rattle.ir_types.proofs.RegisterWidths.{width_at-widths_of}
 use Rattle.ir_types.proofs.register_widths.Widths.width.Goals as goal
