@@ -63,7 +63,7 @@ is_aggregate_step (Ty-F.Struct parts) = true
 is_aggregate_step (Ty-F.Named id) = true
 is_aggregate_step other = false
 
--- whether a type has parts
+-- a type has parts
 abbrev pub is_aggregate : Ty → Bool
 is_aggregate ty = is_aggregate_step (out-Ty ty)
 
@@ -73,20 +73,21 @@ pair_type ty = types.Struct (ty ∷ types.Int W1 ∷ [])
 
 -- ---- names and operands
 
--- what stands for a name is a register of this type, a label, the result of a `cmpxchg` on this type
+-- what a name stands for is a register of this type
 abbrev pub is_register_of : Ty → Option Meaning → Bool
 is_register_of ty (Some (Register own)) = same_ty own ty
 is_register_of ty (Some (Pair own)) = same_ty (pair_type own) ty
 is_register_of ty other = false
 
+-- it is a label; the name stands for one
 abbrev pub is_label : Option Meaning → Bool
 is_label (Some Label) = true
 is_label other = false
 
--- the name stands for a label
 abbrev pub names_label : List (Loc × Meaning) → Loc → Bool
 names_label names at = is_label (first_of names at)
 
+-- it is the result of a `cmpxchg` on this type
 abbrev pub is_pair_of : Ty → Option Meaning → Bool
 is_pair_of ty (Some (Pair own)) = same_ty own ty
 is_pair_of ty other = false
@@ -103,6 +104,7 @@ operand_fits named names (ty, values.Null) = is_ptr ty
 operand_fits named names (ty, values.Global sym) = is_ptr ty
 operand_fits named names (ty, values.Gep gep) = is_ptr ty && gep_fits named gep
 
+-- an index, a value of a phi and a result, each with the type that is written of it
 abbrev pub typed_index : Width × Val → Ty × Val
 typed_index index = (types.Int index.0, index.1)
 
@@ -141,6 +143,7 @@ labels_in inst = []
 
 -- ---- single instructions
 
+-- both are there, and the first has fewer bits
 abbrev pub is_narrower : Option Width → Option Width → Bool
 is_narrower (Some a) (Some b) = nat_lt (bits a) (bits b)
 is_narrower a b = false
@@ -218,7 +221,7 @@ abbrev pub elements_fit : List (Ty × (Ty → Bool)) → Ty-F Ty → Bool
 elements_fit parts (Ty-F.Array count element) = nat_eq count (length parts) && list_all (part_fits element) parts
 elements_fit parts other = false
 
--- parts fit a struct of these fields, or a type that is no struct
+-- parts fit the fields of a struct; where the type is no struct, they fit an array
 abbrev pub parts_fit : List (Ty × (Ty → Bool)) → Ty → Option (List Ty) → Bool
 parts_fit parts ty (Some types) = fields_fit types parts
 parts_fit parts ty None = elements_fit parts (out-Ty ty)
