@@ -2,7 +2,6 @@
 ghost use Rattle.std.specs.Prelude.{◌≡◌, ◌++◌, Some, map, IfOk, OnOk};
 ghost use Rattle.std.specs.List.{flat_map, filter_map};
 ghost use Rattle.ir_core.specs.declared.types.Ty.TheVariants as types;
-ghost use Rattle.ir_types.specs.Kinds.{meaning_of_kind};
 ghost use Rattle.ir_types.specs.Meanings.{Label, Pair, Register, block_meanings, extracted, meanings, param_meaning, result_of, width_of_meaning};
 ghost use Rattle.ir_types.specs.Types.{is_label, is_pair_of, is_register_of};
 

@@ -48,7 +48,7 @@ fn widths_of_func(alloc: Global, f: &Func) -> Result<Firsts<u32>, AllocError>
 }
 
 impl Widths {
-    /// The widths of a module's registers. It takes memory in proportion to the module.
+    /// The widths of a module's registers. It takes memory in proportion to the module, and fails for want of it alone.
     pub fn new(alloc: Global, m: &Module) -> Result<Widths, AllocError>
         ensures { IfOk result (λ widths. widths ≡ widths_of m.now) }
     {
