@@ -16,10 +16,14 @@ setup() {
 # The most bytes that a file may have.
 greatest_size=4194304
 
-# answer WORD.. runs the program, and keeps what it writes and its status. The program has 20 seconds.
+# answer WORD.. runs the program, and keeps what it writes and its status. The program has 20 seconds, and as many KiB of
+# address space as $memory says, if it is set.
 answer() {
     status=0
-    timeout 20 "$program" "$@" >written 2>complaint || status=$?
+    (
+        [ -z "${memory:-}" ] || ulimit -v "$memory"
+        exec timeout 20 "$program" "$@"
+    ) >written 2>complaint || status=$?
 }
 
 # answered STATUS LINE..: the last answer had this status and wrote exactly these lines, and nothing on standard error.
@@ -86,6 +90,33 @@ with_names() {
 }
 
 blanks() { head -c "$1" /dev/zero | tr '\0' ' '; }
+
+needs_python3() { command -v python3 >/dev/null || skip "python3, which makes the modules, is not installed"; }
+
+# shape NAME writes a great module of this shape.
+shape() { python3 "$tests/../bench/check_shapes.py" "$1"; }
+
+# all_shapes checks one great module of each shape. What is told of them follows by arithmetic.
+all_shapes() {
+    local row count
+    while read -r name row; do
+        echo "$name"
+        shape "$name" >module.ll
+        answer check module.ll
+        told "accepted $row"
+    done <<'ROWS'
+blocks 1 16000 48000
+switch 1 18 19
+globals 1 1 2
+init 1 1 1
+registers 1 1 65001
+ROWS
+    echo functions
+    shape functions >module.ll
+    answer check module.ll
+    count=$(grep -c "^define dso_local i64" module.ll)
+    told "accepted $((count + 1)) $((3 * count + 1)) $((19 * count + 2))"
+}
 
 @test "names are defined once, and known" {
     all_told names
@@ -201,4 +232,52 @@ blanks() { head -c "$1" /dev/zero | tr '\0' ' '; }
     status=0
     "$program" check module.ll >/dev/full || status=$?
     [ "$status" -eq 4 ]
+}
+
+@test "great modules are accepted, each within 20 seconds" {
+    needs_python3
+    all_shapes
+}
+
+# Memory takes no more than address space does; of this, 64 MiB are for the program itself.
+@test "great modules are accepted in 100 bytes of memory for each byte of the greatest input" {
+    needs_python3
+    memory=$((100 * greatest_size / 1024 + 64 * 1024))
+    all_shapes
+}
+
+@test "what is wrong at the end of a great module is told" {
+    needs_python3
+    shape registers | sed 's/^  ret i32/  ret i64/' >module.ll
+    answer check module.ll
+    told "refused module TypeMismatch main/0/65000"
+
+    shape blocks >whole.ll
+    sed 's/%p15999 = phi i32 \[ %s15998,/%p15999 = phi i32 [ %s15999,/' whole.ll >module.ll
+    answer check module.ll
+    told "refused module UseBeforeDef main/b15999/0 %s15999"
+    sed 's/%p15999 = phi i32 \[ %s15998, %b15998 \]/%p15999 = phi i32 [ %s15998, %b15997 ]/' whole.ll >module.ll
+    answer check module.ll
+    told "refused module PhiMismatch main/b15999/0"
+
+    shape globals >whole.ll
+    { cat whole.ll; echo "@cell.28999 = global i64 0"; } >module.ll
+    answer check module.ll
+    told "refused module DuplicateName @cell.28999 @cell.28999"
+}
+
+@test "where memory is short the answer is status 5 with nothing written, and never a part of a line" {
+    names 65536 >module.ll
+    blanks $((greatest_size - $(stat -c %s module.ll))) >>module.ll
+    # the text alone has 4 MiB, and the program with its library 3
+    memory=$((8 * 1024))
+    answer check module.ll
+    answered 5
+    for mebibytes in 12 16 24 32 48 64 96 128 192; do
+        echo "$mebibytes MiB"
+        memory=$((mebibytes * 1024))
+        answer check module.ll
+        [ "$status" -eq 0 ] || answered 5
+        [ "$status" -eq 5 ] || told "accepted 1 2 65536"
+    done
 }
