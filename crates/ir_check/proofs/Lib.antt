@@ -2,3 +2,4 @@ pub mod Told
 pub mod Rules
 pub mod Chains
 pub mod Used
+pub mod Laws
