@@ -1,5 +1,5 @@
 -- A built module comes to undefined steps only by operators: each register that a line reads was given a word before.
-use Rattle.std.proofs.Common.{ℕ, zero, suc, ◌≡◌, ◌==◌, ◌||◌, ◌&&◌, List, [], ◌∷◌, ◌++◌, Option, Some, None, Result, Ok, Err, Bool, true, false, if◌then◌else◌, map, slice_index_or, refl, ap, sym, ◌∙◌, subst}
+use Rattle.std.proofs.Common.{ℕ, zero, suc, ◌≡◌, ◌==◌, ◌||◌, ◌&&◌, List, [], ◌∷◌, ◌++◌, Option, Some, None, Result, Ok, Err, Bool, true, false, if◌then◌else◌, map, slice_index_or, refl, ap, sym, ◌∙◌, append_assoc}
 use Rattle.std.specs.Option.{is_some}
 use Rattle.std.proofs.lemmas.Bool.{eqb-true}
 use Rattle.std.proofs.lemmas.List.Folds.{list_any-append}
@@ -155,10 +155,11 @@ line-ready m before (insts.Cmp dst pred ty a b) registers rest knows goes_on hel
 line-ready m before (insts.Select dst condition ty a b) registers rest knows goes_on held e =
     let both = both_true (is_integer ty && is_operand condition) (are_operands a b) e in
     let more = both_true (is_integer ty) (is_operand condition) both.0 in
+    let read : AreHeld before (reg_in condition ++ (reg_in a ++ reg_in b)) = rw (← append_assoc (reg_in condition) (reg_in a) (reg_in b)) held in
     result-ready m before (insts.Select dst condition ty a b) registers rest dst _ refl knows goes_on
     (width-Assigns (int_width ty) (λ w. selection registers w condition a b) more.0
-    (λ w. word-Assigns registers W1 condition _ (operand-HasWord before registers condition knows (held-front before (reg_in condition) (reg_in a ++ reg_in b) held) more.1)
-    (λ c. words-Assigns registers w a b (λ x y. Assign (if c == 1 then x else y)) (operands-HaveWords before registers a b knows (held-back before (reg_in condition) (reg_in a ++ reg_in b) held) both.1) (λ x y. Takes _ refl))))
+    (λ w. word-Assigns registers W1 condition _ (operand-HasWord before registers condition knows (held-front before (reg_in condition) (reg_in a ++ reg_in b) read) more.1)
+    (λ c. words-Assigns registers w a b (λ x y. Assign (if c == 1 then x else y)) (operands-HaveWords before registers a b knows (held-back before (reg_in condition) (reg_in a ++ reg_in b) read) both.1) (λ x y. Takes _ refl))))
 line-ready m before (insts.Cast dst op from a to) registers rest knows goes_on held e =
     let both = both_true (is_cast op (int_width from) (int_width to)) (is_operand a) e in
     result-ready m before (insts.Cast dst op from a to) registers rest dst _ refl knows goes_on
@@ -182,15 +183,21 @@ body-ready m before (line ∷ next ∷ rest) registers knows fed e =
 -- ---- modules
 
 -- the code at which a built module begins
+blocks-ready : (m : ModuleParts) (main : FuncParts) (blocks : List Block) → IsAccepted m → m.funcs ≡ main ∷ [] → main.params ≡ [] → main.blocks ≡ blocks → is_one_block m blocks ≡ true → Ready IsOperatorCause (callees m) [] (code_of m 0 0)
+blocks-ready m main [] accepted e none same is = cc
+blocks-ready m main (block ∷ []) accepted e none same is = rw (e, same) (body-ready m [] block.insts [] Knows-none (accepted-fed m main block accepted e none same) is)
+blocks-ready m main (block ∷ other ∷ blocks) accepted e none same is = cc
+
+empty-none : {A : Type 0} (xs : List A) → is_empty xs ≡ true → xs ≡ []
+empty-none [] e = refl
+empty-none (x ∷ xs) e = cc
+
 program-ready : (m : ModuleParts) (functions : List FuncParts) → IsAccepted m → m.funcs ≡ functions → is_program m functions ≡ true → Ready IsOperatorCause (callees m) [] (code_of m 0 0)
 program-ready m [] accepted e is = cc
+program-ready m (main ∷ []) accepted e is =
+    let both = both_true (is_empty main.params) (is_one_block m main.blocks) is in
+    blocks-ready m main main.blocks accepted e (empty-none main.params both.0) refl both.1
 program-ready m (main ∷ other ∷ functions) accepted e is = cc
-program-ready m (main ∷ []) accepted e is = by_blocks main.blocks refl is
-  where
-    by_blocks : (blocks : List Block) → main.blocks ≡ blocks → is_one_block m blocks ≡ true → Ready IsOperatorCause (callees m) [] (code_of m 0 0)
-    by_blocks [] same is = cc
-    by_blocks (block ∷ other ∷ blocks) same is = cc
-    by_blocks (block ∷ []) same is = rw (e, same) (body-ready m [] block.insts [] Knows-none (accepted-fed m main block accepted e same) is)
 
 -- a turn of a built module comes to an undefined step only by an operator
 pub built_by_operators : (m : ModuleParts) → IsAccepted m → IsBuilt m → IsUndefinedByOperators m

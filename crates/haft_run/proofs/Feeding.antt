@@ -1,16 +1,13 @@
 -- In an accepted module whose one function has one block, each register that a line reads is assigned by a line before it.
 use Rattle.std.proofs.Common.{ℕ, zero, suc, ◌≡◌, ◌+◌, ◌&&◌, ◌||◌, List, [], ◌∷◌, ◌++◌, Option, Some, None, Bool, true, false, if◌then◌else◌, length, take, slice_get, refl, ap, sym, ◌∙◌, subst, append_assoc, arith}
-use Rattle.std.specs.Option.{option_or}
 use Rattle.std.proofs.Math.Seq.{take-append_seam}
 use Rattle.ir_core.specs.declared.types.Loc.{Loc}
 use Rattle.ir_core.specs.declared.instruction.Block.{Block}
 use Rattle.ir_core.specs.declared.instruction.Inst.{Inst}
 use Rattle.ir_core.specs.Module.{ModuleParts, FuncParts}
-use Rattle.ir_flow.specs.declared.uses.Use.{Use}
 use Rattle.ir_flow.specs.Paths.{assigns, assigned_before, IsAssigned}
 use Rattle.ir_flow.specs.Uses.{regs_in, uses_here, uses_of_inst, uses_of_body, uses_from, uses_of, UseAssigned, AllAssigned}
-use Rattle.ir_check.specs.Functions.{is_empty, is_main, has_main}
-use Rattle.ir_check.specs.Faults.{shape_fault, main_fault, IsAccepted}
+use Rattle.ir_check.specs.Faults.{IsAccepted}
 
 -- the lines assign each of the registers
 abbrev pub AreHeld : List Inst → List Loc → Type 0
@@ -32,15 +29,15 @@ AreFed before (line ∷ rest) = AreHeld before (regs_in line) × AreFed (before 
 
 -- ---- uses
 
-abbrev AllHold : (Use → Type 0) → List Use → Type 0
-AllHold fact uses = (k : ℕ) (u : Use) → slice_get uses k ≡ Some u → fact u
+abbrev AllHold : {A : Type 0} → (A → Type 0) → List A → Type 0
+AllHold {A} fact xs = (k : ℕ) (x : A) → slice_get xs k ≡ Some x → fact x
 
-hold-front : (fact : Use → Type 0) (xs ys : List Use) → AllHold fact (xs ++ ys) → AllHold fact xs
+hold-front : {A : Type 0} (fact : A → Type 0) (xs ys : List A) → AllHold fact (xs ++ ys) → AllHold fact xs
 hold-front fact [] ys all k u e = absurd cc
 hold-front fact (x ∷ xs) ys all zero u e = all zero u e
 hold-front fact (x ∷ xs) ys all (suc k) u e = hold-front fact xs ys (λ j v at. all (suc j) v at) k u e
 
-hold-back : (fact : Use → Type 0) (xs ys : List Use) → AllHold fact (xs ++ ys) → AllHold fact ys
+hold-back : {A : Type 0} (fact : A → Type 0) (xs ys : List A) → AllHold fact (xs ++ ys) → AllHold fact ys
 hold-back fact [] ys all = all
 hold-back fact (x ∷ xs) ys all = hold-back fact xs ys (λ k u e. all (suc k) u e)
 
@@ -60,7 +57,7 @@ uses-held f before (reg ∷ regs) assigned all = (assigned reg (all 0 _ refl), u
 
 length-next : (before : List Inst) (line : Inst) → length before + 1 ≡ length (before ++ line ∷ [])
 length-next [] line = refl
-length-next (x ∷ before) line = ap suc (length-next before line)
+length-next (x ∷ before) line = omega (arith, length-next before line)
 
 lines-fed : (f : FuncParts) (block : Block) (before rest : List Inst) → f.params ≡ [] → f.blocks ≡ block ∷ [] → block.insts ≡ before ++ rest → AllHold (UseAssigned f) (uses_of_body f.blocks 0 (length before) rest) → AreFed before rest
 lines-fed f block before [] none one whole all = tt
@@ -74,38 +71,9 @@ lines-fed f block before (line ∷ rest) none one whole all =
 
 -- ---- the one function
 
-former-none : {A : Type 0} (x y : Option A) → option_or x y ≡ None → x ≡ None
-former-none None y e = refl
-former-none (Some x) y e = cc
-
-latter-none : {A : Type 0} (x y : Option A) → option_or x y ≡ None → y ≡ None
-latter-none None y e = e
-latter-none (Some x) y e = cc
-
-none-true : {A : Type 0} (b : Bool) (x : A) → (if b then None else Some x) ≡ None → b ≡ true
-none-true true x e = refl
-none-true false x e = cc
-
-accepted-main : (m : ModuleParts) → IsAccepted m → has_main m ≡ true
-accepted-main m accepted =
-    let shape : shape_fault m ≡ None = latter-none _ _ (latter-none _ _ (latter-none _ _ (latter-none _ _ (latter-none _ _ (latter-none _ _ accepted.lines))))) in
-    none-true (has_main m) _ (former-none _ _ shape)
-
-empty-none : {A : Type 0} (a b : Bool) (xs : List A) → (a && b && is_empty xs) ≡ true → xs ≡ []
-empty-none a b [] e = refl
-empty-none true true (x ∷ xs) e = cc
-empty-none true false (x ∷ xs) e = cc
-empty-none false b (x ∷ xs) e = cc
-
--- `main` has no parameters
-main-alone : (m : ModuleParts) (f : FuncParts) → IsAccepted m → m.funcs ≡ f ∷ [] → f.params ≡ []
-main-alone m f accepted alone =
-    let has : (is_main m f || false) ≡ true = rw (← alone) (accepted-main m accepted) in
-    empty-none _ _ f.params (or_false (is_main m f) has)
-
-pub accepted-fed : (m : ModuleParts) (f : FuncParts) (block : Block) → IsAccepted m → m.funcs ≡ f ∷ [] → f.blocks ≡ block ∷ [] → AreFed [] block.insts
-accepted-fed m f block accepted alone one =
+pub accepted-fed : (m : ModuleParts) (f : FuncParts) (block : Block) → IsAccepted m → m.funcs ≡ f ∷ [] → f.params ≡ [] → f.blocks ≡ block ∷ [] → AreFed [] block.insts
+accepted-fed m f block accepted alone none one =
     let all : AllAssigned f = accepted.uses 0 f (rw alone refl) in
     let same : uses_of f ≡ uses_of_body f.blocks 0 0 block.insts ++ [] = ap (uses_from f.blocks 0) one in
-    lines-fed f block [] block.insts (main-alone m f accepted alone) one refl
+    lines-fed f block [] block.insts none one refl
     (hold-front (UseAssigned f) (uses_of_body f.blocks 0 0 block.insts) [] (subst (AllHold (UseAssigned f)) same all))

@@ -79,9 +79,9 @@ abbrev pub is_one_block : ModuleParts → List Block → Bool
 is_one_block m (block ∷ []) = is_body m block.insts
 is_one_block m blocks = false
 
--- one function of one block
+-- one function without parameters, of one block
 abbrev pub is_program : ModuleParts → List FuncParts → Bool
-is_program m (main ∷ []) = is_one_block m main.blocks
+is_program m (main ∷ []) = is_empty main.params && is_one_block m main.blocks
 is_program m functions = false
 
 unfoldable pub is_built : ModuleParts → Bool

@@ -128,12 +128,12 @@ fn is_one_block(m: &Module, blocks: &[Block]) -> bool
     }
 }
 
-/// Whether the functions are one of one block that is built.
+/// Whether the functions are one without parameters, of one block that is built.
 fn is_program(m: &Module) -> bool
     ensures { result ≡ is_program m.now m.now.funcs }
 {
     match m.funcs() {
-        [main] => is_one_block(m, main.blocks()),
+        [main] => main.params().is_empty() && is_one_block(m, main.blocks()),
         _ => false,
     }
 }
