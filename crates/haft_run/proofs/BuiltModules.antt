@@ -27,7 +27,7 @@ use Rattle.ir_flow.specs.Paths.{is_reg, assigned_by, assigns}
 use Rattle.ir_flow.specs.Uses.{reg_in, regs_in}
 use Rattle.ir_check.specs.Functions.{is_empty}
 use Rattle.ir_check.specs.Faults.{IsAccepted}
-use Rattle.haft_run.specs.Built.{is_output, are_declares, is_integer, is_operand, are_operands, is_argument, is_cast, is_line, is_return, is_body, is_one_block, is_program, is_built, IsBuilt}
+use Rattle.haft_run.specs.Built.{is_output, are_declares, is_integer, is_operand, are_operands, is_cast, is_line, is_return, is_body, is_one_block, is_program, is_built, IsBuilt}
 use Rattle.haft_run.specs.Source.{callees, code_of}
 use Rattle.haft_run.specs.Meaning.{IsOperatorCause, IsUndefinedByOperators}
 use Rattle.haft_run.proofs.Feeding.{AreHeld, held-front, held-back, AreFed, accepted-fed}

@@ -1,5 +1,5 @@
 -- In an accepted module whose one function has one block, each register that a line reads is assigned by a line before it.
-use Rattle.std.proofs.Common.{ℕ, zero, suc, ◌≡◌, ◌+◌, ◌&&◌, ◌||◌, List, [], ◌∷◌, ◌++◌, Option, Some, None, Bool, true, false, if◌then◌else◌, length, take, slice_get, refl, ap, sym, ◌∙◌, subst, append_assoc, arith}
+use Rattle.std.proofs.Common.{ℕ, zero, suc, ◌≡◌, ◌+◌, ◌||◌, List, [], ◌∷◌, ◌++◌, Some, Bool, true, false, length, slice_get, refl, ap, sym, ◌∙◌, subst, append_assoc, arith}
 use Rattle.std.proofs.Math.Seq.{take-append_seam}
 use Rattle.ir_core.specs.declared.types.Loc.{Loc}
 use Rattle.ir_core.specs.declared.instruction.Block.{Block}
@@ -66,7 +66,7 @@ lines-fed f block before (line ∷ rest) none one whole all =
     let later = hold-back (UseAssigned f) (uses_of_inst f.blocks 0 (length before) line) (uses_of_body f.blocks 0 (length before + 1) rest) all in (
       uses-held f before (regs_in line) (λ reg is. entry-assigns f block before (line ∷ rest) reg none one whole is) (hold-front (UseAssigned f) (uses_here 0 (length before) (regs_in line)) _ mine),
       lines-fed f block (before ++ line ∷ []) rest none one (whole ∙ sym (append_assoc before (line ∷ []) rest))
-        (subst (λ (n : ℕ). AllHold (UseAssigned f) (uses_of_body f.blocks 0 n rest)) (length-next before line) later),
+          (subst (λ (n : ℕ). AllHold (UseAssigned f) (uses_of_body f.blocks 0 n rest)) (length-next before line) later),
     )
 
 -- ---- the one function

@@ -4,7 +4,7 @@
 -- Choices: only forms are asked for. What else a module must keep, as names, types and that the one function is
 -- `i32 @main()`, is so in every accepted module. A constant has no bound here: it is a word of its type already, and an
 -- operand counts modulo two to the power of the width. Casts from and to `ptr` aren't built.
-use Rattle.std.specs.Prelude.{Bool, true, false, ◌&&◌, List, [], ◌∷◌, Option, Some, None, IsTrue, codes}
+use Rattle.std.specs.Prelude.{Bool, true, false, ◌&&◌, List, [], ◌∷◌, Option, Some, IsTrue, codes}
 use Rattle.std.specs.Option.{is_none, is_some}
 use Rattle.std.specs.List.{slice_index_or}
 use Rattle.std.specs.Str.{bytes_eq}

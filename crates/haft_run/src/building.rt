@@ -80,10 +80,17 @@ fn is_line(m: &Module, line: &Inst) -> bool
             is_integer(ty) && is_operand(cond) && are_operands(a, b)
         }
         Inst::Cast {
-            op, from, a, to, ..
+            op,
+            from,
+            a,
+            to,
+            ..
         } => is_cast(*op, from, to) && is_operand(a),
         Inst::Call {
-            dst, callee, args, ..
+            dst,
+            callee,
+            args,
+            ..
         } => dst.is_none() && is_output(m, *callee) && is_argument(args.items()),
         _ => false,
     }
@@ -95,7 +102,8 @@ fn is_return(inst: &Inst) -> bool
 {
     match inst {
         Inst::Ret {
-            val: Some(value), ..
+            val: Some(value),
+            ..
         } => is_operand(value),
         _ => false,
     }
