@@ -1,1 +1,4 @@
 pub mod Told
+pub mod Rules
+pub mod Chains
+pub mod Used

@@ -8,6 +8,7 @@ use Rattle.std.specs.Option.{option_map, option_or}
 use Rattle.ir_core.specs.declared.types.Loc.{Loc}
 use Rattle.ir_core.specs.Module.{ModuleParts, FuncParts}
 use Rattle.ir_flow.specs.Uses.{AllAssigned}
+use Rattle.ir_layout.specs.declared.limits.LimitKind.{LimitKind}
 use Rattle.ir_lines.specs.Lines.{Line, first_break, lines_of}
 use Rattle.ir_lines.specs.declared.site.Site.{Site}
 use Rattle.ir_lines.specs.declared.site.Site.TheVariants.{Inst, Module}
@@ -49,8 +50,11 @@ duplicate_fault m = option_map (fault_with m DuplicateName) (duplicate m)
 abbrev pub unknown_fault : ModuleParts → Option Fault
 unknown_fault m = option_map (fault_with m UnknownName) (unknown m)
 
+abbrev pub limit_told : LimitKind × List ℕ → Fault
+limit_told limit = record { kind = Limit limit.0; at = limit.1; name = None }
+
 abbrev pub limit_fault : ModuleParts → Option Fault
-limit_fault m = option_map (λ limit. record { kind = Limit limit.0; at = limit.1; name = None }) (broken_limit m)
+limit_fault m = option_map limit_told (broken_limit m)
 
 abbrev pub main_fault : ModuleParts → Option Fault
 main_fault m = if has_main m then None else Some (fault_at m NoMain Module)

@@ -1,9 +1,10 @@
 -- Phis and uses over all functions of a module: whether all are right, and the first that isn't.
-use Rattle.std.specs.Prelude.{ℕ, ◌≡◌, ◌<◌, List, Option, Some, slice_get}
+use Rattle.std.specs.Prelude.{ℕ, ◌≡◌, ◌<◌, List, Option, Some, None, slice_get}
 use Rattle.ir_core.specs.declared.types.Loc.{Loc}
 use Rattle.ir_core.specs.Module.{ModuleParts, FuncParts}
 use Rattle.ir_flow.specs.Phis.{phis_of, AllFitting, FirstMismatch}
 use Rattle.ir_flow.specs.Uses.{AllAssigned, FirstUnassigned}
+use Rattle.ir_check.specs.declared.flows.Unassigned.{Unassigned}
 
 -- of the functions before a number, or of all of them
 abbrev pub Before : (FuncParts → Type 0) → List FuncParts → ℕ → Type 0
@@ -29,3 +30,8 @@ pub record UnassignedUse (funcs : List FuncParts) (n block inst : ℕ) (reg : Lo
   pub stands : slice_get funcs n ≡ Some f
   pub unassigned : FirstUnassigned f block inst reg
   pub before : Before AllAssigned funcs n
+
+-- the first such use of the functions before a number, or that there is none
+abbrev pub IsFirstUse : List FuncParts → ℕ → Option Unassigned → Type 0
+IsFirstUse funcs n None = Before AllAssigned funcs n
+IsFirstUse funcs n (Some u) = UnassignedUse funcs u.func u.block u.inst u.reg

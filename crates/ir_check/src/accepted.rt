@@ -75,7 +75,9 @@ fn checked(alloc: Global, m: &Module) -> Result<(Layout, Widths), CheckError>
     ensures fault { IfErr result (λ e. Refuses m.now e) }
 {
     let layout = check_lines(alloc, m)?;
-    check_flows(alloc, m)?;
+    if let Err(error) = check_flows(alloc, m) {
+        return Err(error);
+    }
     let widths = Widths::new(alloc, m)?;
     Ok((layout, widths))
 }

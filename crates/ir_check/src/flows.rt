@@ -1,7 +1,8 @@
 //! Phis and uses over all functions (`specs/Flows.antt`).
-ghost use Rattle.std.specs.Prelude.{OnOk, IfErr};
+ghost use Rattle.std.specs.Prelude.{◌≡◌, length, OnOk, IfErr};
 ghost use Rattle.ir_flow.specs.Uses.{AllAssigned};
-ghost use Rattle.ir_check.specs.Flows.{OfAll, PhisFit};
+ghost use Rattle.ir_lines.specs.declared.site.Site.TheVariants.{Inst};
+ghost use Rattle.ir_check.specs.Flows.{OfAll, PhisFit, IsFirstUse};
 ghost use Rattle.ir_check.specs.Faults.{TellsFlow};
 
 use crate::fault::{CheckError, Kind, fault_at, fault_with};
@@ -31,7 +32,13 @@ fn site(func: usize, block: u32, inst: u32) -> Site
 }
 
 // The error for the first use that isn't assigned.
-fn refused(alloc: Global, m: &Module, first: Option<Unassigned>) -> Result<(), CheckError> {
+fn refused(alloc: Global, m: &Module, first: Option<Unassigned>) -> Result<(), CheckError>
+    requires phis { OfAll PhisFit m.now.funcs }
+    requires first { IsFirstUse m.now.funcs (length m.now.funcs) first }
+    ensures phis { OnOk result (OfAll PhisFit m.now.funcs) }
+    ensures uses { OnOk result (OfAll AllAssigned m.now.funcs) }
+    ensures fault { IfErr result (λ e. TellsFlow m.now e) }
+{
     match first {
         None => Ok(()),
         Some(u) => {

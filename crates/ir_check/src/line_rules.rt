@@ -1,5 +1,8 @@
 //! The kinds of faults that look at one line after another (`specs/Faults.antt`).
-ghost use Rattle.std.specs.Prelude.{◌≡◌, None, true, OnOk, IfOk, IfErr};
+ghost use Rattle.std.specs.Prelude.{◌≡◌, ℕ, List, Option, None, true, OnOk, IfOk, IfErr};
+ghost use Rattle.std.specs.Option.{option_map};
+ghost use Rattle.ir_layout.specs.Limits.{Refuses};
+ghost use Rattle.ir_layout.specs.declared.limits.LimitKind.{LimitKind};
 ghost use Rattle.ir_core.specs.declared.types.Ty.{Ty};
 ghost use Rattle.ir_core.specs.declared.types.TypeId.{TypeId};
 ghost use Rattle.ir_lines.specs.Lines.{TypeLine};
@@ -7,7 +10,7 @@ ghost use Rattle.ir_layout.specs.Memory.{layout_of};
 ghost use Rattle.ir_calls.specs.Calls.{calls_keep};
 ghost use Rattle.ir_types.specs.Types.{types_keep};
 ghost use Rattle.ir_check.specs.Blocks.{terminators_keep, entries_keep};
-ghost use Rattle.ir_check.specs.Faults.{Tells, duplicate_fault, unknown_fault, limit_fault, rule_fault, main_fault, shape_fault, code_fault, line_fault};
+ghost use Rattle.ir_check.specs.Faults.{Tells, duplicate_fault, unknown_fault, limit_told, limit_fault, rule_fault, main_fault, shape_fault, code_fault, line_fault};
 ghost use Rattle.ir_check.specs.declared.fault.Kind.TheVariants as kinds;
 
 use crate::blocks::{Entries, Terminators};
@@ -45,7 +48,9 @@ fn check_unknown(alloc: Global, m: &Module) -> Result<(), CheckError>
 }
 
 // The error of a layout that isn't there.
-fn limit_error(error: LayoutError) -> CheckError {
+fn limit_error(error: LayoutError) -> CheckError
+    ensures { (first : Option (LimitKind × List ℕ)) → Refuses first error → Tells (option_map limit_told first) result }
+{
     match error {
         LayoutError::Limit { kind, at } => CheckError::Fault {
             kind: Kind::Limit(kind),

@@ -88,7 +88,12 @@ fn whole_values(types: &TypeTable, ty: &Ty, width: Width, n: u64) -> u64
 }
 
 /// The type that an index goes into, and how many bytes further that stands.
-pub(crate) fn entered<'a>(types: &'a TypeTable, ty: &'a Ty, width: Width, n: u64) -> Option<(&'a Ty, u64)>
+pub(crate) fn entered<'a>(
+    types: &'a TypeTable,
+    ty: &'a Ty,
+    width: Width,
+    n: u64,
+) -> Option<(&'a Ty, u64)>
     ensures { Reaches (entered types.now (width, n) ty.now) result }
 {
     match ty {

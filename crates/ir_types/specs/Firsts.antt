@@ -1,5 +1,5 @@
 -- What stands under a `%` name where the first of its name counts.
-use Rattle.std.specs.Prelude.{ℕ, ◌≡◌, Bool, List, Option, find, slice_get, nat_eq}
+use Rattle.std.specs.Prelude.{ℕ, ◌≡◌, List, Option, find, slice_get, nat_eq}
 use Rattle.std.specs.Option.{option_map, option_and_then}
 use Rattle.std.specs.HashMap.{HashMap, get}
 use Rattle.std.specs.declared.hash.FoldHasher.{FoldHasher}

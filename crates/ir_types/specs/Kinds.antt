@@ -1,4 +1,4 @@
--- What contracts see of the kinds of `%` names.
+-- What the code keeps of a `%` name, as contracts see it: an integer type and `ptr` without a reference to a type that is written.
 use Rattle.ir_core.specs.declared.types.Ty.TheVariants as types
 use Rattle.ir_types.specs.declared.meaning.Kind.{Kind}
 use Rattle.ir_types.specs.declared.meaning.Kind.TheVariants as kinds

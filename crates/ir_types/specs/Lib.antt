@@ -3,3 +3,4 @@ pub mod Meanings
 pub mod Tables
 pub mod Types
 pub mod Kinds
+pub mod Scopes

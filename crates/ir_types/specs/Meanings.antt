@@ -2,9 +2,9 @@
 --
 -- Choices: registers and labels of a function share their names. Where a name is defined twice, its first definition counts;
 -- an accepted module has one.
-use Rattle.std.specs.Prelude.{ℕ, ◌+◌, List, [], ◌∷◌, ◌++◌, map, Option, Some, None, nat_eq, slice_get, unwrap_or, if◌then◌else◌}
+use Rattle.std.specs.Prelude.{ℕ, ◌+◌, List, ◌∷◌, ◌++◌, map, Option, Some, None, nat_eq, unwrap_or, if◌then◌else◌}
 use Rattle.std.specs.List.{flat_map, filter_map}
-use Rattle.std.specs.Option.{option_map, option_and_then}
+use Rattle.std.specs.Option.{option_map}
 use Rattle.ir_core.specs.declared.types.Ty.{Ty}
 use Rattle.ir_core.specs.declared.types.Ty.TheOpen.{Ty-F}
 use Rattle.ir_core.specs.declared.types.Ty.TheVariants as types
@@ -15,7 +15,7 @@ use Rattle.ir_core.specs.declared.types.Width.TheVariants.{W1, W8, W16, W32, W64
 use Rattle.ir_core.specs.declared.instruction.Inst.{Inst}
 use Rattle.ir_core.specs.declared.instruction.Inst.TheVariants as insts
 use Rattle.ir_core.specs.declared.instruction.Block.{Block}
-use Rattle.ir_core.specs.Module.{ModuleParts, FuncParts}
+use Rattle.ir_core.specs.Module.{FuncParts}
 use Rattle.ir_types.specs.Firsts.{first_of}
 
 -- A label, a register of a type, or one that holds what a `cmpxchg` on a type gave: the old word and whether it succeeded.

@@ -1,5 +1,5 @@
 -- The widths of the registers of all functions.
-use Rattle.std.specs.Prelude.{ℕ, List, map, Option, slice_get, unwrap_or}
+use Rattle.std.specs.Prelude.{ℕ, List, map, slice_get, unwrap_or}
 use Rattle.std.specs.Option.{option_and_then}
 use Rattle.ir_core.specs.declared.types.Loc.{Loc}
 use Rattle.ir_core.specs.Module.{ModuleParts, FuncParts}

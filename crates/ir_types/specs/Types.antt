@@ -3,9 +3,9 @@
 -- Choices: the result of a `cmpxchg` on T has the type `{ T, i1 }`. A constant has its type by its form: a number an integer type,
 -- all others `ptr`. A register in a further index of a `getelementptr` goes into an array and into no struct. Parts of an
 -- initialiser write their types, which are the element's or the fields'. Named types keep the rule whatever they are.
-use Rattle.std.specs.Prelude.{ℕ, Bool, true, false, not, ◌&&◌, List, [], ◌∷◌, ◌++◌, map, length, Option, Some, None, nat_eq, nat_lt}
+use Rattle.std.specs.Prelude.{ℕ, Bool, true, false, not, ◌&&◌, List, [], ◌∷◌, map, length, Option, Some, None, nat_eq, nat_lt}
 use Rattle.std.specs.List.{list_all}
-use Rattle.std.specs.Option.{option_map, option_and_then, is_some}
+use Rattle.std.specs.Option.{is_some}
 use Rattle.ir_core.specs.declared.types.Ty.{Ty}
 use Rattle.ir_core.specs.declared.types.Ty.TheOpen.{Ty-F}
 use Rattle.ir_core.specs.declared.types.Ty.TheVariants as types
@@ -13,7 +13,7 @@ use Rattle.ir_core.specs.declared.types.Ty.TheViews.{out-Ty}
 use Rattle.ir_core.specs.declared.types.Loc.{Loc}
 use Rattle.ir_core.specs.declared.types.TypeId.{TypeId}
 use Rattle.ir_core.specs.declared.types.Width.{Width}
-use Rattle.ir_core.specs.declared.types.Width.TheVariants.{W1, W8, W16, W32, W64}
+use Rattle.ir_core.specs.declared.types.Width.TheVariants.{W1, W8, W64}
 use Rattle.ir_core.specs.declared.values.ConstGep.{ConstGep}
 use Rattle.ir_core.specs.declared.values.Val.{Val}
 use Rattle.ir_core.specs.declared.values.Val.TheVariants as values
@@ -23,7 +23,7 @@ use Rattle.ir_core.specs.declared.instruction.CastOp.{CastOp}
 use Rattle.ir_core.specs.declared.instruction.CastOp.TheVariants.{Zext, Sext, Trunc, Ptrtoint, Inttoptr}
 use Rattle.ir_core.specs.declared.instruction.Inst.{Inst}
 use Rattle.ir_core.specs.declared.instruction.Inst.TheVariants as insts
-use Rattle.ir_core.specs.Module.{ModuleParts, FuncParts}
+use Rattle.ir_core.specs.Module.{ModuleParts}
 use Rattle.ir_layout.specs.Offsets.{fields, entered, offset_of}
 use Rattle.ir_lines.specs.Lines.{Line, TypeLine, GlobalLine, DeclareLine, HeadLine, BlockLine, InstLine}
 use Rattle.ir_lines.specs.SameTypes.{same_ty}
@@ -63,7 +63,7 @@ is_aggregate_step (Ty-F.Struct parts) = true
 is_aggregate_step (Ty-F.Named id) = true
 is_aggregate_step other = false
 
--- whether a type has parts
+-- a type has parts
 abbrev pub is_aggregate : Ty → Bool
 is_aggregate ty = is_aggregate_step (out-Ty ty)
 
@@ -73,20 +73,21 @@ pair_type ty = types.Struct (ty ∷ types.Int W1 ∷ [])
 
 -- ---- names and operands
 
--- what stands for a name is a register of this type, a label, the result of a `cmpxchg` on this type
+-- what a name stands for is a register of this type
 abbrev pub is_register_of : Ty → Option Meaning → Bool
 is_register_of ty (Some (Register own)) = same_ty own ty
 is_register_of ty (Some (Pair own)) = same_ty (pair_type own) ty
 is_register_of ty other = false
 
+-- it is a label; the name stands for one
 abbrev pub is_label : Option Meaning → Bool
 is_label (Some Label) = true
 is_label other = false
 
--- the name stands for a label
 abbrev pub names_label : List (Loc × Meaning) → Loc → Bool
 names_label names at = is_label (first_of names at)
 
+-- it is the result of a `cmpxchg` on this type
 abbrev pub is_pair_of : Ty → Option Meaning → Bool
 is_pair_of ty (Some (Pair own)) = same_ty own ty
 is_pair_of ty other = false
@@ -103,6 +104,7 @@ operand_fits named names (ty, values.Null) = is_ptr ty
 operand_fits named names (ty, values.Global sym) = is_ptr ty
 operand_fits named names (ty, values.Gep gep) = is_ptr ty && gep_fits named gep
 
+-- an index, a value of a phi and a result, each with the type that is written of it
 abbrev pub typed_index : Width × Val → Ty × Val
 typed_index index = (types.Int index.0, index.1)
 
@@ -141,6 +143,7 @@ labels_in inst = []
 
 -- ---- single instructions
 
+-- both are there, and the first has fewer bits
 abbrev pub is_narrower : Option Width → Option Width → Bool
 is_narrower (Some a) (Some b) = nat_lt (bits a) (bits b)
 is_narrower a b = false
@@ -213,10 +216,15 @@ fields_fit [] [] = true
 fields_fit (field ∷ types) (part ∷ parts) = part_fits field part && fields_fit types parts
 fields_fit types parts = false
 
--- parts fit an array of as many elements, or a struct of as many fields
-abbrev pub parts_fit_step : List (TypeId × Ty) → List (Ty × (Ty → Bool)) → Ty → Ty-F Ty → Bool
-parts_fit_step named parts ty (Ty-F.Array count element) = nat_eq count (length parts) && list_all (part_fits element) parts
-parts_fit_step named parts ty other = holds_of (λ types. fields_fit types parts) (fields named ty)
+-- each part fits the element of an array, and there are as many
+abbrev pub elements_fit : List (Ty × (Ty → Bool)) → Ty-F Ty → Bool
+elements_fit parts (Ty-F.Array count element) = nat_eq count (length parts) && list_all (part_fits element) parts
+elements_fit parts other = false
+
+-- parts fit the fields of a struct; where the type is no struct, they fit an array
+abbrev pub parts_fit : List (Ty × (Ty → Bool)) → Ty → Option (List Ty) → Bool
+parts_fit parts ty (Some types) = fields_fit types parts
+parts_fit parts ty None = elements_fit parts (out-Ty ty)
 
 -- one layer of an initialiser, with what its parts ask of their types
 abbrev pub init_step : List (TypeId × Ty) → Init-F (Ty → Bool) → Ty → Bool
@@ -226,7 +234,7 @@ init_step named Init-F.Null ty = is_ptr ty
 init_step named (Init-F.Addr sym) ty = is_ptr ty
 init_step named (Init-F.Gep gep) ty = is_ptr ty && gep_fits named gep
 init_step named (Init-F.Bytes bytes) ty = is_byte_array (length bytes) ty
-init_step named (Init-F.Parts parts) ty = parts_fit_step named parts ty (out-Ty ty)
+init_step named (Init-F.Parts parts) ty = parts_fit parts ty (fields named ty)
 
 -- an initialiser fits a type
 abbrev pub init_fits : List (TypeId × Ty) → Init → Ty → Bool

@@ -17,7 +17,6 @@ pub(crate) struct Firsts<T> {
 
 impl<T> Model for Firsts<T> {
     ghost use Rattle.std.specs.Prelude.{List};
-    ghost use Rattle.std.specs.Coded.{codes};
     ghost use Rattle.ir_core.specs.declared.types.Loc.{Loc};
 
     ghost Value = { List (Loc × T) };

@@ -1,7 +1,7 @@
 //! What instructions ask of types beside their operands and labels (`specs/Types.antt`).
 ghost use Rattle.std.specs.Prelude.{◌≡◌};
 ghost use Rattle.ir_types.specs.Firsts.{first_of};
-ghost use Rattle.ir_types.specs.Types.{as_constant, cast_fits, enter, form_fits, indices_fit, inst_fits, is_narrower, is_pair_of, ret_fits};
+ghost use Rattle.ir_types.specs.Types.{as_constant, cast_fits, form_fits, indices_fit, inst_fits, is_narrower, is_pair_of, ret_fits};
 
 use crate::labels::labels_fit;
 use crate::meaning::Names;

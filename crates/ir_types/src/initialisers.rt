@@ -28,31 +28,29 @@ pub(crate) fn init_fits(layout: &Layout, init: &Init, ty: &Ty) -> bool
         Init::Null | Init::Addr(_) => is_ptr(ty),
         Init::Gep(gep) => is_ptr(ty) && gep_fits(layout, gep),
         Init::Bytes(bytes) => is_byte_array(bytes.bytes().len() as u64, ty),
-        Init::Parts(parts) => {
-            let parts = parts.items();
-            if let Ty::Array(count, element) = ty {
-                let element = element.get();
+        Init::Parts(parts) => match (layout.fields(ty), ty) {
+            (Some(mut fields), _) => {
+                for (written, part) in parts.items() {
+                    let [field, rest @ ..] = fields else {
+                        return false;
+                    };
+                    if !same_ty(written, field) || !init_fits(layout, part, field) {
+                        return false;
+                    }
+                    fields = rest;
+                }
+                fields.is_empty()
+            }
+            (None, Ty::Array(count, element)) => {
+                let (parts, element) = (parts.items(), element.get());
                 for (own, part) in parts {
                     if !same_ty(own, element) || !init_fits(layout, part, element) {
                         return false;
                     }
                 }
                 *count == parts.len() as u64
-            } else {
-                let Some(fields) = layout.fields(ty) else {
-                    return false;
-                };
-                if fields.len() != parts.len() {
-                    return false;
-                }
-                for place in 0..parts.len() {
-                    let (own, part) = &parts[place];
-                    if !same_ty(own, &fields[place]) || !init_fits(layout, part, &fields[place]) {
-                        return false;
-                    }
-                }
-                true
             }
-        }
+            (None, _) => false,
+        },
     }
 }

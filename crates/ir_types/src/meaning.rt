@@ -2,12 +2,11 @@
 ghost use Rattle.std.specs.Prelude.{◌≡◌, ◌++◌, Some, map, IfOk, OnOk};
 ghost use Rattle.std.specs.List.{flat_map, filter_map};
 ghost use Rattle.ir_core.specs.declared.types.Ty.TheVariants as types;
-ghost use Rattle.ir_types.specs.Kinds.{meaning_of_kind};
 ghost use Rattle.ir_types.specs.Meanings.{Label, Pair, Register, block_meanings, extracted, meanings, param_meaning, result_of, width_of_meaning};
 ghost use Rattle.ir_types.specs.Types.{is_label, is_pair_of, is_register_of};
 
 use crate::firsts::Firsts;
-use crate::type_kinds::{bits, is_int_of, is_pair_type, word_bits};
+use crate::type_kinds::{bits, is_int_of, is_pair_type, is_ptr, word_bits};
 use ir_core::{Block, Func, Inst, Loc, Ty, Width};
 use ir_lines::same_ty;
 use std::alloc::{AllocError, Global};
@@ -46,45 +45,59 @@ impl<'m> Model for Meaning<'m> {
     ghost view = { λ m. meaning_of_kind m.kind };
 }
 
-// A label, a register of an integer type, one of type `ptr`.
-fn label<'m>() -> Meaning<'m>
-    ensures { result ≡ Label }
-{
-    Meaning { kind: Kind::Label }
-}
-
-fn int<'m>(width: Width) -> Meaning<'m>
-    ensures { result ≡ Register (types.Int width) }
-{
-    Meaning {
-        kind: Kind::Int(width),
-    }
-}
-
-fn ptr<'m>() -> Meaning<'m>
-    ensures { result ≡ Register types.Ptr }
-{
-    Meaning { kind: Kind::Ptr }
-}
-
-// A register of a type, and the result of a `cmpxchg` on one.
-fn value<'m>(ty: &'m Ty) -> Meaning<'m>
-    ensures { result ≡ Register ty.now }
-{
-    Meaning {
-        kind: Kind::Value(ty),
-    }
-}
-
-fn pair<'m>(ty: &'m Ty) -> Meaning<'m>
-    ensures { result ≡ Pair ty.now }
-{
-    Meaning {
-        kind: Kind::Pair(ty),
-    }
-}
-
 impl<'m> Meaning<'m> {
+    // A label.
+    fn label() -> Meaning<'m>
+        ensures { result ≡ Label }
+    {
+        Meaning { kind: Kind::Label }
+    }
+
+    // A register of an integer type.
+    fn int(width: Width) -> Meaning<'m>
+        ensures { result ≡ Register (types.Int width) }
+    {
+        Meaning {
+            kind: Kind::Int(width),
+        }
+    }
+
+    // A register of type `ptr`.
+    fn ptr() -> Meaning<'m>
+        ensures { result ≡ Register types.Ptr }
+    {
+        Meaning { kind: Kind::Ptr }
+    }
+
+    // A register of this type.
+    fn value(ty: &'m Ty) -> Meaning<'m>
+        ensures { result ≡ Register ty.now }
+    {
+        Meaning {
+            kind: Kind::Value(ty),
+        }
+    }
+
+    // The result of a `cmpxchg` on this type.
+    fn pair(ty: &'m Ty) -> Meaning<'m>
+        ensures { result ≡ Pair ty.now }
+    {
+        Meaning {
+            kind: Kind::Pair(ty),
+        }
+    }
+
+    // What an `extractvalue` takes out of such a result.
+    fn extracted(ty: &'m Ty, index: u8) -> Meaning<'m>
+        ensures { result ≡ Register (extracted ty.now index) }
+    {
+        if index == 0 {
+            Meaning::value(ty)
+        } else {
+            Meaning::int(Width::W1)
+        }
+    }
+
     /// Whether it is a label.
     pub(crate) fn is_label(&self) -> bool
         ensures { result ≡ is_label (Some self.now) }
@@ -99,7 +112,7 @@ impl<'m> Meaning<'m> {
         match self.kind {
             Kind::Label => false,
             Kind::Int(width) => is_int_of(ty, width),
-            Kind::Ptr => matches!(ty, Ty::Ptr),
+            Kind::Ptr => is_ptr(ty),
             Kind::Value(own) => same_ty(own, ty),
             Kind::Pair(own) => is_pair_type(ty, own),
         }
@@ -129,35 +142,29 @@ impl<'m> Meaning<'m> {
     }
 }
 
-// What an `extractvalue` takes out of a pair.
-fn extracted<'m>(ty: &'m Ty, index: u8) -> Meaning<'m>
-    ensures { result ≡ Register (extracted ty.now index) }
-{
-    if index == 0 {
-        value(ty)
-    } else {
-        int(Width::W1)
-    }
-}
-
 // The register that an instruction assigns, and what it holds then.
 fn result_of<'m>(inst: &'m Inst) -> Option<(Loc, Meaning<'m>)>
     ensures { result ≡ result_of inst.now }
 {
     match inst {
-        Inst::Bin { dst, w, .. } => Some((*dst, int(*w))),
-        Inst::Cmp { dst, .. } => Some((*dst, int(Width::W1))),
+        Inst::Bin { dst, w, .. } => Some((*dst, Meaning::int(*w))),
+        Inst::Cmp { dst, .. } => Some((*dst, Meaning::int(Width::W1))),
         Inst::Select { dst, ty, .. }
         | Inst::Cast { dst, to: ty, .. }
         | Inst::Load { dst, ty, .. }
         | Inst::Rmw { dst, ty, .. }
-        | Inst::Phi { dst, ty, .. } => Some((*dst, value(ty))),
-        Inst::Gep { dst, .. } | Inst::Alloca { dst, .. } => Some((*dst, ptr())),
-        Inst::CmpXchg { dst, ty, .. } => Some((*dst, pair(ty))),
-        Inst::Extract { dst, elem, index, .. } => Some((*dst, extracted(elem, *index))),
+        | Inst::Phi { dst, ty, .. } => Some((*dst, Meaning::value(ty))),
+        Inst::Gep { dst, .. } | Inst::Alloca { dst, .. } => Some((*dst, Meaning::ptr())),
+        Inst::CmpXchg { dst, ty, .. } => Some((*dst, Meaning::pair(ty))),
+        Inst::Extract {
+            dst,
+            elem,
+            index,
+            ..
+        } => Some((*dst, Meaning::extracted(elem, *index))),
         Inst::Call { dst, ret, .. } => {
             let dst = (*dst)?;
-            Some((dst, value(ret)))
+            Some((dst, Meaning::value(ret)))
         }
         Inst::Store { .. }
         | Inst::Fence
@@ -182,28 +189,37 @@ fn add_results<'m>(insts: &'m [Inst], names: &mut Vec<(Loc, Meaning<'m>)>) -> Re
 }
 
 // Adds blocks, each with its label and its results.
-fn add_blocks<'m>(blocks: &'m [Block], names: &mut Vec<(Loc, Meaning<'m>)>) -> Result<(), AllocError>
+fn add_blocks<'m>(
+    blocks: &'m [Block],
+    names: &mut Vec<(Loc, Meaning<'m>)>,
+) -> Result<(), AllocError>
     ensures { OnOk result (names.new.items ≡ names.old.items ++ flat_map block_meanings blocks.now) }
 {
     for block in blocks {
-        names.push((block.label, label()))?;
+        names.push((block.label, Meaning::label()))?;
         add_results(block.insts.items(), names)?;
     }
     Ok(())
 }
 
 // Adds parameters.
-fn add_params<'m>(params: &'m [(Ty, Loc)], names: &mut Vec<(Loc, Meaning<'m>)>) -> Result<(), AllocError>
+fn add_params<'m>(
+    params: &'m [(Ty, Loc)],
+    names: &mut Vec<(Loc, Meaning<'m>)>,
+) -> Result<(), AllocError>
     ensures { OnOk result (names.new.items ≡ names.old.items ++ map param_meaning params.now) }
 {
     for (ty, at) in params {
-        names.push((*at, value(ty)))?;
+        names.push((*at, Meaning::value(ty)))?;
     }
     Ok(())
 }
 
 /// What the `%` names of a function stand for, in the order of their definitions.
-pub(crate) fn meanings<'m>(alloc: Global, f: &'m Func) -> Result<Vec<(Loc, Meaning<'m>)>, AllocError>
+pub(crate) fn meanings<'m>(
+    alloc: Global,
+    f: &'m Func,
+) -> Result<Vec<(Loc, Meaning<'m>)>, AllocError>
     ensures { IfOk result (λ names. names.items ≡ meanings f.now) }
 {
     let mut names = Vec::new(alloc);

@@ -1,10 +1,10 @@
 //! Whether operands have the types that are written of them (`specs/Types.antt`).
-ghost use Rattle.std.specs.Prelude.{◌≡◌, ◌&&◌, ◌∷◌, [], map};
+ghost use Rattle.std.specs.Prelude.{◌≡◌, ◌∷◌, [], map};
 ghost use Rattle.std.specs.List.{list_all};
 ghost use Rattle.ir_core.specs.declared.types.Ty.TheVariants as types;
-ghost use Rattle.ir_core.specs.declared.types.Width.TheVariants.{W1};
 ghost use Rattle.ir_types.specs.Firsts.{first_of};
-ghost use Rattle.ir_types.specs.Types.{gep_fits, is_register_of, operand_fits, typed_arm, typed_index, typed_operands, typed_result};
+ghost use Rattle.ir_types.specs.Scopes.{fits_in};
+ghost use Rattle.ir_types.specs.Types.{gep_fits, is_register_of, typed_arm, typed_index, typed_operands, typed_result};
 
 use crate::meaning::Names;
 use crate::type_kinds::{is_int, is_ptr};
@@ -38,7 +38,7 @@ impl Scope<'_, '_> {
 
     // Whether an operand has this type.
     fn fits(&self, ty: &Ty, val: &Val) -> bool
-        ensures { result ≡ operand_fits self.now.layout.now.types self.now.names.now (ty.now, val.now) }
+        ensures { result ≡ fits_in self.now (ty.now, val.now) }
     {
         match val {
             Val::Reg(at) => self.is_register_of(ty, *at),
@@ -50,14 +50,14 @@ impl Scope<'_, '_> {
 
     // Whether two operands have this type.
     fn both_fit(&self, ty: &Ty, a: &Val, b: &Val) -> bool
-        ensures { result ≡ (operand_fits self.now.layout.now.types self.now.names.now (ty.now, a.now) && operand_fits self.now.layout.now.types self.now.names.now (ty.now, b.now)) }
+        ensures { result ≡ list_all (fits_in self.now) ((ty.now, a.now) ∷ (ty.now, b.now) ∷ []) }
     {
         self.fits(ty, a) && self.fits(ty, b)
     }
 
     // Whether an operand has the integer type of this width.
     fn fits_int(&self, width: Width, val: &Val) -> bool
-        ensures { result ≡ operand_fits self.now.layout.now.types self.now.names.now (types.Int width, val.now) }
+        ensures { result ≡ fits_in self.now (types.Int width, val.now) }
     {
         let int = Ty::Int(width);
         let fits = self.fits(&int, val);
@@ -67,7 +67,7 @@ impl Scope<'_, '_> {
 
     // Whether an operand is a pointer.
     fn fits_ptr(&self, val: &Val) -> bool
-        ensures { result ≡ operand_fits self.now.layout.now.types self.now.names.now (types.Ptr, val.now) }
+        ensures { result ≡ fits_in self.now (types.Ptr, val.now) }
     {
         let ptr = Ty::Ptr;
         let fits = self.fits(&ptr, val);
@@ -77,7 +77,7 @@ impl Scope<'_, '_> {
 
     // Whether indices have the types that are written of them.
     fn indices_fit(&self, indices: &[(Width, Val)]) -> bool
-        ensures { result ≡ list_all (operand_fits self.now.layout.now.types self.now.names.now) (map typed_index indices.now) }
+        ensures { result ≡ list_all (fits_in self.now) (map typed_index indices.now) }
     {
         for (width, val) in indices {
             if !self.fits_int(*width, val) {
@@ -89,7 +89,7 @@ impl Scope<'_, '_> {
 
     // Whether arguments have the types that are written of them.
     fn args_fit(&self, args: &[(Ty, Val)]) -> bool
-        ensures { result ≡ list_all (operand_fits self.now.layout.now.types self.now.names.now) args.now }
+        ensures { result ≡ list_all (fits_in self.now) args.now }
     {
         for (ty, val) in args {
             if !self.fits(ty, val) {
@@ -101,7 +101,7 @@ impl Scope<'_, '_> {
 
     // Whether the values of a phi have this type.
     fn arms_fit(&self, ty: &Ty, arms: &[(Val, Loc)]) -> bool
-        ensures { result ≡ list_all (operand_fits self.now.layout.now.types self.now.names.now) (map (typed_arm ty.now) arms.now) }
+        ensures { result ≡ list_all (fits_in self.now) (map (typed_arm ty.now) arms.now) }
     {
         for (val, _) in arms {
             if !self.fits(ty, val) {
@@ -113,7 +113,7 @@ impl Scope<'_, '_> {
 
     // Whether a result has this type, where there is one.
     fn result_fits(&self, ty: &Ty, val: &Option<Val>) -> bool
-        ensures { result ≡ list_all (operand_fits self.now.layout.now.types self.now.names.now) (typed_result ty.now val.now) }
+        ensures { result ≡ list_all (fits_in self.now) (typed_result ty.now val.now) }
     {
         match val {
             Some(val) => self.fits(ty, val),
@@ -123,7 +123,7 @@ impl Scope<'_, '_> {
 
     /// Whether the operands of an instruction have the types that are written of them.
     pub(crate) fn operands_fit(&self, inst: &Inst) -> bool
-        ensures { result ≡ list_all (operand_fits self.now.layout.now.types self.now.names.now) (typed_operands inst.now) }
+        ensures { result ≡ list_all (fits_in self.now) (typed_operands inst.now) }
     {
         match inst {
             Inst::Bin { w, a, b, .. } => self.fits_int(*w, a) && self.fits_int(*w, b),
@@ -136,9 +136,13 @@ impl Scope<'_, '_> {
             Inst::Load { ptr, .. } => self.fits_ptr(ptr),
             Inst::Store { ty, val, ptr, .. } => self.fits(ty, val) && self.fits_ptr(ptr),
             Inst::Rmw { ptr, ty, val, .. } => self.fits_ptr(ptr) && self.fits(ty, val),
-            Inst::CmpXchg { ptr, ty, old, new, .. } => {
-                self.fits_ptr(ptr) && self.both_fit(ty, old, new)
-            }
+            Inst::CmpXchg {
+                ptr,
+                ty,
+                old,
+                new,
+                ..
+            } => { self.fits_ptr(ptr) && self.both_fit(ty, old, new) }
             Inst::Call { args, .. } => self.args_fit(args.items()),
             Inst::Phi { ty, arms, .. } => self.arms_fit(ty, arms.items()),
             Inst::CondBr { cond, .. } => self.fits_int(Width::W1, cond),

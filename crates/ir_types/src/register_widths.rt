@@ -1,6 +1,8 @@
 //! The widths of the registers of a module (`specs/Meanings.antt`, `Tables.antt`).
 ghost use Rattle.std.specs.Prelude.{◌≡◌, Some, IfOk, map, slice_get};
+ghost use Rattle.std.specs.Option.{option_and_then};
 ghost use Rattle.ir_core.specs.Module.{ModuleParts, FuncParts};
+ghost use Rattle.ir_types.specs.Firsts.{first_of};
 ghost use Rattle.ir_types.specs.Meanings.{width_of};
 ghost use Rattle.ir_types.specs.Tables.{width_at, widths, widths_of, with_width};
 
@@ -46,7 +48,7 @@ fn widths_of_func(alloc: Global, f: &Func) -> Result<Firsts<u32>, AllocError>
 }
 
 impl Widths {
-    /// The widths of a module's registers. It takes memory in proportion to the module.
+    /// The widths of a module's registers. It takes memory in proportion to the module, and fails for want of it alone.
     pub fn new(alloc: Global, m: &Module) -> Result<Widths, AllocError>
         ensures { IfOk result (λ widths. widths ≡ widths_of m.now) }
     {
@@ -57,15 +59,20 @@ impl Widths {
         Ok(Widths { funcs })
     }
 
+    // The width of a name of the function with this number.
+    fn found(&self, func: usize, reg: Loc) -> Option<u32>
+        ensures { result ≡ option_and_then (λ table. first_of table reg) (slice_get self.now func) }
+    {
+        let table = self.funcs.get(func)?;
+        table.get(reg).copied()
+    }
+
     /// How many bits a register of the function with this number holds: 1 to 64, one more for what a `cmpxchg` gave, and 0 for
     /// any other name. It takes no memory.
     pub fn width(&self, func: usize, reg: Loc) -> u32
         ensures table { result ≡ width_at self.now func reg }
         ensures register { (m : ModuleParts) (f : FuncParts) → self.now ≡ widths_of m → slice_get m.funcs func ≡ Some f → result ≡ width_of f reg }
     {
-        match self.funcs.get(func) {
-            Some(table) => table.get(reg).copied().unwrap_or(0),
-            None => 0,
-        }
+        self.found(func, reg).unwrap_or(0)
     }
 }

@@ -3,7 +3,7 @@ ghost use Rattle.std.specs.Prelude.{◌≡◌, IfOk, map};
 ghost use Rattle.std.specs.List.{list_all};
 ghost use Rattle.ir_layout.specs.Memory.{layout_of};
 ghost use Rattle.ir_types.specs.Meanings.{meanings};
-ghost use Rattle.ir_types.specs.Types.{has_no_parts, signature_fits};
+ghost use Rattle.ir_types.specs.Types.{has_no_parts};
 
 use crate::forms::inst_fits;
 use crate::initialisers::init_fits;
@@ -77,7 +77,7 @@ fn params_have_no_parts(params: &[(Ty, Loc)]) -> bool
 }
 
 impl<'m> Types<'m> {
-    /// The rule over a module, whose layout this is. It takes memory in proportion to the module.
+    /// The rule over a module, whose layout this is. It takes memory in proportion to the module, and fails for want of it alone.
     pub fn new(alloc: Global, m: &'m Module, layout: &'m Layout) -> Result<Types<'m>, AllocError>
         requires { layout.now ≡ layout_of m.now }
         ensures { IfOk result (λ types. types ≡ m.now) }

@@ -1,8 +1,19 @@
-use Rattle.std.proofs.Common.{arith}
-use Rattle.std.specs.Prelude.{nat_eq}
+use Rattle.std.proofs.Common.{◌≡◌, ◌≤◌, ◌<◌, ℕ, ◌+◌, ◌-◌, length, drop, subst, arith}
+use Rattle.std.specs.Prelude.{nat_eq, slice_get}
+use Rattle.std.specs.Option.{option_and_then}
 use Rattle.std.specs.HashMap.{get}
+use Rattle.ir_types.specs.Firsts.{entry_of}
 use Rattle.ir_types.proofs.FirstPlaces.{placed-before}
 use Rattle.ir_types.proofs.firsts.places_of.Goals as goal
 
 pub entries-preserved : goal.entries-preserved
-entries-preserved g c = ?
+entries-preserved g c =
+    let left : ℕ = c.entries.left in
+    let some : 0 < left = c.entries-test.true in
+    let within : left ≤ length c.args.entries.now = c.entries.invariant.inside in
+    let again : left ≡ (left - 1) + 1 = omega arith in
+    let behind : (n : ℕ) → option_and_then (slice_get c.args.entries.now) (get nat_eq c.entries.places n) ≡ entry_of (drop ((left - 1) + 1) c.args.entries.now) n = subst (λ (k : ℕ). (n : ℕ) → option_and_then (slice_get c.args.entries.now) (get nat_eq c.entries.places n) ≡ entry_of (drop k c.args.entries.now) n) again c.entries.invariant.placed in
+    record {
+      inside = omega arith;
+      placed = placed-before c.args.entries.now (left - 1) c.index-entries-left.result (get nat_eq c.entries.places) (get nat_eq c.insert.new.self) (omega arith) c.index-entries-left.is (c.in_ok-insert.ensures.updates.1) (c.in_ok-insert.ensures.updates.2) behind;
+    }

@@ -1,5 +1,4 @@
-use Rattle.std.proofs.Common.{◌≡◌, ◌++◌, List, map, drop}
-use Rattle.std.specs.List.{list_all}
+use Rattle.std.proofs.Common.{◌≡◌, drop}
 use Rattle.ir_types.specs.Types.{enter, indices_fit}
 use Rattle.ir_types.proofs.forms.indices_fit.Given as goal
 

@@ -1,4 +1,4 @@
-use Rattle.std.proofs.Common.{◌≡◌, ◌++◌, List, map, drop}
+use Rattle.std.proofs.Common.{◌≡◌, drop}
 use Rattle.std.specs.List.{list_all}
 use Rattle.ir_types.specs.Types.{has_no_parts}
 use Rattle.ir_types.proofs.rule.have_no_parts.Given as goal
