@@ -10,6 +10,6 @@ pub mod Steps
 pub mod Simulation
 pub mod Images
 pub mod Defined
+pub mod Feeding
 pub mod BuiltModules
-pub mod Tests
 pub mod Upsets

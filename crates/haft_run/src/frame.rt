@@ -22,7 +22,7 @@ fn compares(when: When) -> bool
 }
 
 /// The register that takes an instruction's result.
-pub fn destination_of(inst: &Inst) -> Option<Loc>
+fn destination_of(inst: &Inst) -> Option<Loc>
     ensures { result ≡ destination inst.now }
 {
     match inst {

@@ -1,7 +1,7 @@
 //! Programs, hardened and run.
 //!
-//! `run` takes a module that is built (`built` tells exactly those of `specs/Built.antt`) and a schedule without
-//! upsets (`upset_free`). It hardens the module and runs it on the hardened machine: the result is that of
+//! `run` takes an accepted module that is built (`built` tells exactly those of `specs/Built.antt`, by their form) and a
+//! schedule without upsets (`upset_free`). It hardens the module and runs it on the hardened machine: the result is that of
 //! `specs/Hard.antt` on the image of `hard_ir`'s `specs/Image.antt`, over the schedule's events. Where the module is
 //! good, which is that no list of turns comes to an undefined step, the result stands for a run of the source program
 //! (`specs/Source.antt`), as `specs/Meaning.antt` says; a step of a built module is undefined only by an operator.

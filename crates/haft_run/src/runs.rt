@@ -10,23 +10,24 @@ use crate::RunResult;
 use crate::hardening::harden;
 use crate::machine::Machine;
 use ir_action::callees_of;
-use ir_core::Module;
+use ir_check::Accepted;
 use sched_file::Schedule;
 use std::alloc::{AllocError, Global};
 
-/// Hardens a module, and runs it over the events of a schedule. Turns of threads that were never made do
+/// Hardens an accepted module, and runs it over the events of a schedule. Turns of threads that were never made do
 /// nothing, nor do aborts, and events after the stop change nothing.
-pub fn run(alloc: Global, m: &Module, s: &Schedule) -> Result<RunResult, AllocError>
-    requires built { IsBuilt m.now }
+pub fn run(alloc: Global, a: &Accepted, s: &Schedule) -> Result<RunResult, AllocError>
+    requires built { IsBuilt a.now }
     requires upset_free { IsUpsetFree (events_of s.now.lines) }
     requires few { length (events_of s.now.lines) < 2 ^ 64 }
     // The result is that of the hardened module's run on the events.
-    ensures exact { IfOk result (λ r. r ≡ run_on m.now (machine_events (events_of s.now.lines))) }
+    ensures exact { IfOk result (λ r. r ≡ run_on a.now (machine_events (events_of s.now.lines))) }
     // The result stands for a run of the source, or the source is undefined on the result's turns.
-    ensures told { IfOk result (λ r. Told m.now r) }
+    ensures told { IfOk result (λ r. Told a.now r) }
     // So it stands for a run of a good module.
-    ensures meaning { IsGood m.now → IfOk result (λ r. Means m.now r) }
+    ensures meaning { IsGood a.now → IfOk result (λ r. Means a.now r) }
 {
+    let m = a.module();
     let callees = callees_of(alloc, m)?;
     let hardened = harden(alloc, m)?;
     let functions = hardened.items();
