@@ -1,20 +1,25 @@
--- What is written for the files of a run.
-use Rattle.std.specs.Prelude.{ℕ, ◌≡◌, List, Option}
+-- What is written for the files of a command.
+use Rattle.std.specs.Prelude.{ℕ, ◌≡◌, ◌⊎◌, List, Option, Some}
 use Rattle.haft_io.specs.declared.device.Which.{Which}
-use Rattle.haft_io.specs.Device.{emptied}
+use Rattle.haft_io.specs.declared.device.Which.TheVariants.{First, Second}
+use Rattle.haft_io.specs.Device.{Rose, emptied}
+use Rattle.haft_cli.specs.declared.command.Command.{Command}
+use Rattle.haft_cli.specs.declared.command.Command.TheVariants.{Check, Run}
+use Rattle.haft_cli.specs.declared.work.Opened.{Opened}
+use Rattle.haft_cli.specs.declared.work.Opened.TheVariants.{Accepted, Turned}
 use Rattle.haft_cli.specs.declared.work.Work.{Work}
 use Rattle.haft_cli.specs.declared.work.Work.TheVariants.{Report, Refused}
 use Rattle.haft_cli.specs.declared.top.Status.{Status}
 use Rattle.haft_cli.specs.declared.top.Status.TheVariants as statuses
-use Rattle.haft_cli.specs.Command.{IsReport, IsLine, result_on, run_report}
+use Rattle.haft_cli.specs.Command.{Checks, IsReport, IsLine, IsTextRefused, check_report, result_on, run_report}
 use Rattle.ir_core.specs.Module.{ModuleParts}
 use Rattle.sched_file.specs.Schedule.{ScheduleParts}
 use Rattle.haft_run.specs.Meaning.{IsGood, Means, Told}
 
 -- the work is that of these files
-abbrev pub IsWork : Option (List ℕ) → Option (List ℕ) → Work → Type 0
-IsWork first second (Report text) = IsReport first second text.items
-IsWork first second (Refused line) = IsLine first second line.items
+abbrev pub IsWork : Command → Option (List ℕ) → Option (List ℕ) → Work → Type 0
+IsWork command first second (Report text) = IsReport command first second text.items
+IsWork command first second (Refused line) = IsLine command first second line.items
 
 -- what is written
 abbrev pub text_of : Work → List ℕ
@@ -26,9 +31,20 @@ abbrev pub IsReportWork : Work → Type 0
 IsReportWork (Report text) = Unit {0}
 IsReportWork (Refused line) = ⊥
 
--- nothing is left of either file
-abbrev pub IsRead : (Which → Option (List ℕ)) → (Which → Option (List ℕ)) → Type 0
-IsRead old new = (which : Which) → new which ≡ emptied (old which)
+-- nothing is left of a file that the command reads, and the other one is as it was
+abbrev pub IsRead : Command → (Which → Option (List ℕ)) → (Which → Option (List ℕ)) → Type 0
+IsRead Check old new = (new First ≡ emptied (old First)) × (new Second ≡ old Second)
+IsRead Run old new = (new First ≡ emptied (old First)) × (new Second ≡ emptied (old Second))
+
+-- a count of faults rose of a file that the command reads
+abbrev pub RoseIn : Command → (Which → ℕ) → (Which → ℕ) → Type 0
+RoseIn Check old new = Rose (old First) (new First)
+RoseIn Run old new = Rose (old First) (new First) ⊎ Rose (old Second) (new Second)
+
+-- what is left of the files that the command reads
+abbrev pub AreTold : Command → (Which → Option (List ℕ)) → List ℕ → List ℕ → Type 0
+AreTold Check left first second = left First ≡ Some first
+AreTold Run left first second = (left First ≡ Some first) × (left Second ≡ Some second)
 
 -- the status that a work ends with, once it is written
 abbrev pub status_of : Work → Status
@@ -41,3 +57,13 @@ pub record IsRunOf (m : ModuleParts) (s : ScheduleParts) (work : Work) : Type 0 
   pub text : text_of work ≡ run_report m s
   pub told : Told m (result_on m s)
   pub means : IsGood m → Means m (result_on m s)
+
+-- the work is what `check` tells of this module
+pub record IsCheckOf (m : ModuleParts) (work : Work) : Type 0 where
+  pub done : status_of work ≡ statuses.Done
+  pub text : text_of work ≡ check_report m
+
+-- the text is refused, or stands for the module
+abbrev pub IsOpened : List ℕ → Opened → Type 0
+IsOpened text (Accepted m) = Checks text m
+IsOpened text (Turned refusal) = IsTextRefused text refusal

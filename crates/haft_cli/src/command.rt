@@ -1,10 +1,22 @@
 //! The command line, and what is refused.
 ghost use Rattle.std.specs.Prelude.{◌≡◌, ◌++◌, map, string_bytes, codes, IfOk, OnOk};
 ghost use Rattle.std.specs.Fmt.{decimal};
-ghost use Rattle.haft_cli.specs.Command.{is_run_line, line_of, text_line};
+ghost use Rattle.std.specs.Option.{option_copied};
+ghost use Rattle.haft_cli.specs.Command.{command_of, limit_word, kind_word, name_part, module_line, line_of, text_line};
 
+use ir_check::Kind;
 use ir_core::Name;
+use ir_layout::LimitKind;
 use std::alloc::{AllocError, Global};
+
+/// What the words ask for.
+#[derive(Clone, Copy, PartialEq, Eq)]
+pub enum Command {
+    /// `check F`: whether the module of a file is accepted.
+    Check,
+    /// `run F S`: the run of a module, hardened, over a schedule.
+    Run,
+}
 
 /// Why files are refused, in the order in which it is looked at. Lines and columns are counted from 1.
 #[derive(Drop)]
@@ -17,6 +29,12 @@ pub enum Refusal {
     TextWord { line: u32, word: Name },
     /// No token begins at a column of a line of the first file.
     TextByte { line: u32, col: u32 },
+    /// The module of the first file isn't accepted: the kind of its fault, the place, and a name where one is told.
+    Module {
+        kind: Kind,
+        at: Name,
+        name: Option<Name>,
+    },
     /// The module of the first file isn't built.
     UnbuiltFirst,
     /// A line of the second file is the first unfit one of a schedule.
@@ -57,6 +75,66 @@ fn byte_line(alloc: Global, line: u32, col: u32) -> Result<Vec<u8>, AllocError>
     text_line(alloc, line, b" byte ", buffer.format(col).as_bytes())
 }
 
+/// The word of a limit.
+fn limit_word(limit: LimitKind) -> &'static [u8]
+    ensures { result.now ≡ limit_word limit }
+{
+    match limit {
+        LimitKind::Globals => b"Limit.Globals",
+        LimitKind::TypeSize => b"Limit.TypeSize",
+        LimitKind::TypeDepth => b"Limit.TypeDepth",
+        LimitKind::Params => b"Limit.Params",
+        LimitKind::Registers => b"Limit.Registers",
+    }
+}
+
+/// The word of a kind of faults.
+fn kind_word(kind: Kind) -> &'static [u8]
+    ensures { result.now ≡ kind_word kind }
+{
+    match kind {
+        Kind::DuplicateName => b"DuplicateName",
+        Kind::UnknownName => b"UnknownName",
+        Kind::Limit(limit) => limit_word(limit),
+        Kind::BadTerminator => b"BadTerminator",
+        Kind::BadCall => b"BadCall",
+        Kind::TypeMismatch => b"TypeMismatch",
+        Kind::NoMain => b"NoMain",
+        Kind::EntryHasPredecessor => b"EntryHasPredecessor",
+        Kind::PhiMismatch => b"PhiMismatch",
+        Kind::UseBeforeDef => b"UseBeforeDef",
+    }
+}
+
+/// Adds the name that a fault tells.
+fn push_name(text: &mut Vec<u8>, name: Option<&Name>) -> Result<(), AllocError>
+    ensures { OnOk result (text.new.items ≡ text.old.items ++ name_part (option_copied name)) }
+{
+    if let Some(name) = name {
+        text.extend_from_slice(b" ")?;
+        text.extend_from_slice(name.bytes())?;
+    }
+    Ok(())
+}
+
+/// `refused module KIND AT` and a name where one is told.
+fn module_line(
+    alloc: Global,
+    kind: Kind,
+    at: &[u8],
+    name: Option<&Name>,
+) -> Result<Vec<u8>, AllocError>
+    ensures { IfOk result (λ text. text.items ≡ module_line kind at.now (option_copied name)) }
+{
+    let mut text = Vec::from_slice(alloc, b"refused module ")?;
+    text.extend_from_slice(kind_word(kind))?;
+    text.extend_from_slice(b" ")?;
+    text.extend_from_slice(at)?;
+    push_name(&mut text, name)?;
+    text.extend_from_slice(b"\n")?;
+    Ok(text)
+}
+
 impl Refusal {
     /// The line that is written.
     pub fn line(&self, alloc: Global) -> Result<Vec<u8>, AllocError>
@@ -67,6 +145,9 @@ impl Refusal {
             Refusal::LongSecond => Vec::from_slice(alloc, b"refused long second\n"),
             Refusal::TextWord { line, word } => text_line(alloc, *line, b" ", word.bytes()),
             Refusal::TextByte { line, col } => byte_line(alloc, *line, *col),
+            Refusal::Module { kind, at, name } => {
+                module_line(alloc, *kind, at.bytes(), name.as_ref())
+            }
             Refusal::UnbuiltFirst => Vec::from_slice(alloc, b"refused unbuilt first\n"),
             Refusal::Schedule { line } => schedule_line(alloc, *line),
             Refusal::UnbuiltSecond => Vec::from_slice(alloc, b"refused unbuilt second\n"),
@@ -74,12 +155,13 @@ impl Refusal {
     }
 }
 
-/// Whether the words are `run F S`.
-pub fn is_run(words: &[String]) -> bool
-    ensures { result ≡ is_run_line (map string_bytes words.now) }
+/// What the words ask for, or `None` where they are no command line.
+pub fn command_of(words: &[String]) -> Option<Command>
+    ensures { result ≡ command_of (map string_bytes words.now) }
 {
     match words {
-        [command, _, _] => command.as_bytes() == b"run".as_slice(),
-        _ => false,
+        [word, _] if word.as_bytes() == b"check".as_slice() => Some(Command::Check),
+        [word, _, _] if word.as_bytes() == b"run".as_slice() => Some(Command::Run),
+        _ => None,
     }
 }

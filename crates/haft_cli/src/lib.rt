@@ -1,13 +1,14 @@
 //! The top call, over devices: what the words ask for is read, done and written.
 //!
 //! `haft` is the call that the program makes, and its contract carries what the tool promises of bytes.
-//! Its clauses cite `specs/Command.antt` (command lines, files that are refused, the report of files) and
+//! Its clauses cite `specs/Command.antt` (command lines, files that are refused, the reports of files) and
 //! `specs/Written.antt` (what was written); `specs/Work.antt` is for private contracts.
 #![tactic(auto)]
 
 mod command;
+mod counts;
 mod top;
 mod work;
 
-pub use command::Refusal;
+pub use command::{Command, Refusal};
 pub use top::{Status, haft};

@@ -1,22 +1,24 @@
-//! What is to be written for the files of a run.
+//! What is to be written for the files of a command.
 ghost use Rattle.std.specs.Prelude.{◌≡◌, ◌≤◌, ◌⊎◌, List, ℕ, Option, Some, length, IfOk, IfSome, IfNone, OnOk, OnSome, IsErrOf, ◌<◌};
 ghost use Rattle.std.specs.Option.{ForSome};
 ghost use Rattle.haft_io.specs.Device.{Rose, emptied, other};
 ghost use Rattle.ir_core.specs.Module.{ModuleParts};
-ghost use Rattle.ir_parse_top.specs.Text.{Text};
 ghost use Rattle.sched_file.specs.Schedule.{ScheduleParts, IsSchedule};
 ghost use Rattle.sched_file.specs.Events.{events_of};
 ghost use Rattle.haft_run.specs.Built.{IsBuilt};
 ghost use Rattle.haft_run.specs.Schedule.{IsUpsetFree};
-ghost use Rattle.haft_cli.specs.Command.{IsWithin, IsRefused, Runs, limit};
-ghost use Rattle.haft_cli.specs.Work.{IsWork, IsReportWork, IsRead, IsRunOf, status_of};
+ghost use Rattle.haft_cli.specs.Command.{IsWithin, IsRefused, Checks, Runs, limit};
+ghost use Rattle.haft_cli.specs.declared.command.Command.{Command as CommandValue};
+ghost use Rattle.haft_cli.specs.declared.command.Command.TheVariants.{Check, Run};
+ghost use Rattle.haft_cli.specs.Work.{IsWork, IsReportWork, IsRead, IsOpened, IsCheckOf, IsRunOf, RoseIn, status_of};
 ghost use Rattle.haft_cli.specs.declared.work.Stopped.TheVariants.{NoMemory, ReadFault};
 
 use crate::Status;
-use crate::command::Refusal;
+use crate::command::{Command, Refusal};
+use crate::counts::check_report;
 use haft_io::{Inputs, ReadFail, Which, read_whole};
 use haft_run::{built, report, run, upset_free};
-use ir_core::Module;
+use ir_check::{Accepted, CheckError, accept};
 use ir_parse_top::{ParseError, parse_module};
 use sched_file::{SchedError, Schedule, parse_schedule};
 use std::alloc::{AllocError, Global};
@@ -74,7 +76,7 @@ fn read_text<I: Inputs>(
 
 /// The work that is a refusal.
 fn refused(alloc: Global, refusal: Refusal) -> Result<Work, AllocError>
-    ensures work { (first second : Option (List ℕ)) → IsRefused first second refusal → IfOk result (IsWork first second) }
+    ensures work { (command : CommandValue) (first second : Option (List ℕ)) → IsRefused command first second refusal → IfOk result (IsWork command first second) }
     ensures line { IfOk result (λ work. status_of work ≡ Status.Refused) }
 {
     let line = refusal.line(alloc);
@@ -82,77 +84,144 @@ fn refused(alloc: Global, refusal: Refusal) -> Result<Work, AllocError>
     Ok(Work::Refused(line?))
 }
 
-/// The work for a module that is built and a schedule.
-fn run_schedule(alloc: Global, m: &Module, s: &Schedule) -> Result<Work, AllocError>
-    requires built { IsBuilt m.now }
+/// A text of a module, read and checked.
+#[derive(Drop)]
+pub enum Opened {
+    /// The module is accepted.
+    Accepted(Accepted),
+    /// The text is refused.
+    Turned(Refusal),
+}
+
+/// Reads the text of a module, and checks it.
+fn open_module(alloc: Global, text: &[u8]) -> Result<Opened, AllocError>
+    requires { IsWithin text.now }
+    ensures { IfOk result (IsOpened text.now) }
+{
+    let m = match parse_module(alloc, text) {
+        Ok(m) => m,
+        Err(ParseError::Refused { line, word }) => {
+            return Ok(Opened::Turned(Refusal::TextWord { line, word }));
+        }
+        Err(ParseError::BadByte { line, col }) => {
+            return Ok(Opened::Turned(Refusal::TextByte { line, col }));
+        }
+        Err(ParseError::NoMemory) => return Err(AllocError),
+    };
+    match accept(alloc, m) {
+        Ok(accepted) => Ok(Opened::Accepted(accepted)),
+        Err(CheckError::Fault { kind, at, name }) => {
+            Ok(Opened::Turned(Refusal::Module { kind, at, name }))
+        }
+        Err(CheckError::NoMemory) => Err(AllocError),
+    }
+}
+
+/// The work for an accepted module that is built and a schedule.
+fn run_schedule(alloc: Global, a: &Accepted, s: &Schedule) -> Result<Work, AllocError>
+    requires built { IsBuilt a.now }
     requires few { length (events_of s.now.lines) ≤ 4194304 }
-    ensures work { (first second : List ℕ) → IsWithin first → IsWithin second → Text first m.now → IsSchedule second s.now.args s.now.lines → IfOk result (IsWork (Some first) (Some second)) }
-    ensures run { IsUpsetFree (events_of s.now.lines) → IfOk result (IsRunOf m.now s.now) }
+    ensures work { (first second : List ℕ) → IsWithin first → IsWithin second → Checks first a.now → IsSchedule second s.now.args s.now.lines → IfOk result (IsWork Run (Some first) (Some second)) }
+    ensures run { IsUpsetFree (events_of s.now.lines) → IfOk result (IsRunOf a.now s.now) }
 {
     if !upset_free(s) {
         return refused(alloc, Refusal::UnbuiltSecond);
     }
-    let outcome = run(alloc, m, s)?;
+    let outcome = run(alloc, a, s)?;
     let text = report(alloc, &outcome)?;
     Ok(Work::Report(text))
 }
 
-/// The work for a module that is built and a second file.
-fn run_built(alloc: Global, m: &Module, second: &[u8]) -> Result<Work, AllocError>
-    requires built { IsBuilt m.now }
+/// The work for an accepted module that is built and a second file.
+fn run_built(alloc: Global, a: &Accepted, second: &[u8]) -> Result<Work, AllocError>
+    requires built { IsBuilt a.now }
     requires within { IsWithin second.now }
-    ensures work { (first : List ℕ) → IsWithin first → Text first m.now → IfOk result (IsWork (Some first) (Some second.now)) }
-    ensures run { (s : ScheduleParts) → IsSchedule second.now s.args s.lines → IsUpsetFree (events_of s.lines) → IfOk result (IsRunOf m.now s) }
+    ensures work { (first : List ℕ) → IsWithin first → Checks first a.now → IfOk result (IsWork Run (Some first) (Some second.now)) }
+    ensures run { (s : ScheduleParts) → IsSchedule second.now s.args s.lines → IsUpsetFree (events_of s.lines) → IfOk result (IsRunOf a.now s) }
 {
     match parse_schedule(alloc, second) {
-        Ok(s) => run_schedule(alloc, m, &s),
+        Ok(s) => run_schedule(alloc, a, &s),
         Err(SchedError::Refused { line }) => refused(alloc, Refusal::Schedule { line }),
         Err(SchedError::NoMemory) => Err(AllocError),
     }
 }
 
-/// The work for a module and a second file.
-fn run_text(alloc: Global, m: &Module, second: &[u8]) -> Result<Work, AllocError>
+/// The work for an accepted module and a second file.
+fn run_text(alloc: Global, a: &Accepted, second: &[u8]) -> Result<Work, AllocError>
     requires { IsWithin second.now }
-    ensures work { (first : List ℕ) → IsWithin first → Text first m.now → IfOk result (IsWork (Some first) (Some second.now)) }
-    ensures run { (s : ScheduleParts) → IsBuilt m.now → IsSchedule second.now s.args s.lines → IsUpsetFree (events_of s.lines) → IfOk result (IsRunOf m.now s) }
+    ensures work { (first : List ℕ) → IsWithin first → Checks first a.now → IfOk result (IsWork Run (Some first) (Some second.now)) }
+    ensures run { (s : ScheduleParts) → IsBuilt a.now → IsSchedule second.now s.args s.lines → IsUpsetFree (events_of s.lines) → IfOk result (IsRunOf a.now s) }
 {
-    if built(m) {
-        run_built(alloc, m, second)
+    if built(a) {
+        run_built(alloc, a, second)
     } else {
         refused(alloc, Refusal::UnbuiltFirst)
     }
 }
 
-/// The work for two texts that aren't too long.
-fn work_on(alloc: Global, first: &[u8], second: &[u8]) -> Result<Work, AllocError>
+/// The work of a run for two texts that aren't too long.
+fn run_texts(alloc: Global, first: &[u8], second: &[u8]) -> Result<Work, AllocError>
     requires first_within { IsWithin first.now }
     requires second_within { IsWithin second.now }
-    ensures work { IfOk result (IsWork (Some first.now) (Some second.now)) }
+    ensures work { IfOk result (IsWork Run (Some first.now) (Some second.now)) }
     ensures run { (m : ModuleParts) (s : ScheduleParts) → Runs first.now second.now m s → IfOk result (IsRunOf m s) }
 {
-    match parse_module(alloc, first) {
-        Ok(m) => {
-            let work = run_text(alloc, &m, second);
-            drop(m);
+    match open_module(alloc, first)? {
+        Opened::Accepted(a) => {
+            let work = run_text(alloc, &a, second);
+            drop(a);
             work
         }
-        Err(ParseError::Refused { line, word }) => refused(alloc, Refusal::TextWord { line, word }),
-        Err(ParseError::BadByte { line, col }) => refused(alloc, Refusal::TextByte { line, col }),
-        Err(ParseError::NoMemory) => Err(AllocError),
+        Opened::Turned(refusal) => refused(alloc, refusal),
     }
 }
 
-/// The work for the files, which are read whole, the first before the second.
-pub fn prepare<I: Inputs>(alloc: Global, inputs: &mut I) -> Result<Work, Stopped>
-    ensures work { IfOk result (IsWork (I.left inputs.old Which.First) (I.left inputs.old Which.Second)) }
+/// The work of a check for a text that isn't too long.
+fn check_text(alloc: Global, first: &[u8]) -> Result<Work, AllocError>
+    requires { IsWithin first.now }
+    ensures work { (second : Option (List ℕ)) → IfOk result (IsWork Check (Some first.now) second) }
+    ensures check { (m : ModuleParts) → Checks first.now m → IfOk result (IsCheckOf m) }
+{
+    match open_module(alloc, first)? {
+        Opened::Accepted(a) => {
+            let text = check_report(alloc, a.module());
+            drop(a);
+            Ok(Work::Report(text?))
+        }
+        Opened::Turned(refusal) => refused(alloc, refusal),
+    }
+}
+
+/// The work of `check` for the first file, which is read whole.
+fn prepare_check<I: Inputs>(alloc: Global, inputs: &mut I) -> Result<Work, Stopped>
+    ensures work { IfOk result (IsWork Check (I.left inputs.old Which.First) (I.left inputs.old Which.Second)) }
+    // An accepted module gives its counts.
+    ensures check { (first : List ℕ) (m : ModuleParts) → I.left inputs.old Which.First ≡ Some first
+        → IsWithin first → Checks first m → IfOk result (IsCheckOf m) }
+    // A report for such a file is that of its module.
+    ensures exact { (first : List ℕ) (m : ModuleParts) → I.left inputs.old Which.First ≡ Some first
+        → Checks first m → IfOk result (λ work. status_of work ≡ Status.Done → IsCheckOf m work) }
+    ensures read { IfOk result (λ work. IsReportWork work → IsRead Check (I.left inputs.old) (I.left inputs.new)) }
+    ensures failed { IsErrOf result Stopped.ReadFault → Rose (I.faults inputs.old Which.First) (I.faults inputs.new Which.First) }
+    ensures unread { I.left inputs.new Which.Second ≡ I.left inputs.old Which.Second }
+{
+    let Some(first) = read_text(alloc, inputs, Which::First)? else {
+        return Ok(refused(alloc, Refusal::LongFirst)?);
+    };
+    let work = check_text(alloc, &first)?;
+    Ok(work)
+}
+
+/// The work of `run` for the files, which are read whole, the first before the second.
+fn prepare_run<I: Inputs>(alloc: Global, inputs: &mut I) -> Result<Work, Stopped>
+    ensures work { IfOk result (IsWork Run (I.left inputs.old Which.First) (I.left inputs.old Which.Second)) }
     // A module that is built and a schedule without upsets give the report of their run.
     ensures run { (first second : List ℕ) (m : ModuleParts) (s : ScheduleParts) → I.left inputs.old Which.First ≡ Some first → I.left inputs.old Which.Second ≡ Some second
         → IsWithin first → IsWithin second → Runs first second m s → IfOk result (IsRunOf m s) }
     // A report for such files is that of their run.
     ensures exact { (first second : List ℕ) (m : ModuleParts) (s : ScheduleParts) → I.left inputs.old Which.First ≡ Some first → I.left inputs.old Which.Second ≡ Some second
         → Runs first second m s → IfOk result (λ work. status_of work ≡ Status.Done → IsRunOf m s work) }
-    ensures read { IfOk result (λ work. IsReportWork work → IsRead (I.left inputs.old) (I.left inputs.new)) }
+    ensures read { IfOk result (λ work. IsReportWork work → IsRead Run (I.left inputs.old) (I.left inputs.new)) }
     ensures failed { IsErrOf result Stopped.ReadFault → Rose (I.faults inputs.old Which.First) (I.faults inputs.new Which.First)
         ⊎ Rose (I.faults inputs.old Which.Second) (I.faults inputs.new Which.Second) }
 {
@@ -162,6 +231,31 @@ pub fn prepare<I: Inputs>(alloc: Global, inputs: &mut I) -> Result<Work, Stopped
     let Some(second) = read_text(alloc, inputs, Which::Second)? else {
         return Ok(refused(alloc, Refusal::LongSecond)?);
     };
-    let work = work_on(alloc, &first, &second)?;
+    let work = run_texts(alloc, &first, &second)?;
     Ok(work)
+}
+
+/// The work of a command for its files, which are read whole, the first before the second.
+pub fn prepare<I: Inputs>(
+    alloc: Global,
+    command: Command,
+    inputs: &mut I,
+) -> Result<Work, Stopped>
+    ensures work { IfOk result (IsWork command (I.left inputs.old Which.First) (I.left inputs.old Which.Second)) }
+    ensures run { (first second : List ℕ) (m : ModuleParts) (s : ScheduleParts) → command ≡ Run → I.left inputs.old Which.First ≡ Some first → I.left inputs.old Which.Second ≡ Some second
+        → IsWithin first → IsWithin second → Runs first second m s → IfOk result (IsRunOf m s) }
+    ensures run_exact { (first second : List ℕ) (m : ModuleParts) (s : ScheduleParts) → command ≡ Run → I.left inputs.old Which.First ≡ Some first → I.left inputs.old Which.Second ≡ Some second
+        → Runs first second m s → IfOk result (λ work. status_of work ≡ Status.Done → IsRunOf m s work) }
+    ensures check { (first : List ℕ) (m : ModuleParts) → command ≡ Check → I.left inputs.old Which.First ≡ Some first
+        → IsWithin first → Checks first m → IfOk result (IsCheckOf m) }
+    ensures check_exact { (first : List ℕ) (m : ModuleParts) → command ≡ Check → I.left inputs.old Which.First ≡ Some first
+        → Checks first m → IfOk result (λ work. status_of work ≡ Status.Done → IsCheckOf m work) }
+    ensures read { IfOk result (λ work. IsReportWork work → IsRead command (I.left inputs.old) (I.left inputs.new)) }
+    ensures failed { IsErrOf result Stopped.ReadFault → RoseIn command (I.faults inputs.old) (I.faults inputs.new) }
+    ensures unread { command ≡ Check → I.left inputs.new Which.Second ≡ I.left inputs.old Which.Second }
+{
+    match command {
+        Command::Check => prepare_check(alloc, inputs),
+        Command::Run => prepare_run(alloc, inputs),
+    }
 }
