@@ -69,7 +69,7 @@ lines-fed f block before (line ∷ rest) none one whole all =
           (subst (λ (n : ℕ). AllHold (UseAssigned f) (uses_of_body f.blocks 0 n rest)) (length-next before line) later),
     )
 
--- ---- the one function
+-- ---- the one block
 
 pub accepted-fed : (m : ModuleParts) (f : FuncParts) (block : Block) → IsAccepted m → m.funcs ≡ f ∷ [] → f.params ≡ [] → f.blocks ≡ block ∷ [] → AreFed [] block.insts
 accepted-fed m f block accepted alone none one =
