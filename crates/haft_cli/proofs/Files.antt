@@ -13,3 +13,7 @@ none_some found x e f = let clash : None ≡ Some x = sym e ∙ f in cc
 -- what is there is one value
 pub one_value : {X : Type 0} (found : Option X) (x y : X) → found ≡ Some x → found ≡ Some y → x ≡ y
 one_value found x y e f = let same : Some x ≡ Some y = sym e ∙ f in cc
+
+-- what was found is what was asked for
+pub same_some : {X : Type 0} (x y : X) (found : Option X) → Some x ≡ found → found ≡ Some y → x ≡ y
+same_some x y found e f = let same : Some x ≡ Some y = e ∙ f in cc

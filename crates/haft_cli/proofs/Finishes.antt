@@ -1,6 +1,8 @@
 -- What was written where the call ended with Done.
-use Rattle.std.proofs.Common.{ℕ, ◌≡◌, ◌⊎◌, inl, inr, List, Option, Some, Result, Ok, Err, IfOk, refl, arith, sym, ap, ◌∙◌, subst}
+use Rattle.std.proofs.Common.{ℕ, ◌≡◌, ◌⊎◌, inl, inr, List, Option, Some, Result, Ok, Err, IfOk, refl, arith, sym, ◌∙◌, subst}
 use Rattle.haft_io.specs.Device.{Puts, PutsPart}
+use Rattle.haft_io.specs.declared.device.Which.{Which}
+use Rattle.haft_io.specs.declared.device.Which.TheVariants.{First, Second}
 use Rattle.ir_core.specs.Module.{ModuleParts}
 use Rattle.ir_parse_top.specs.Text.{BadWord, BadByte}
 use Rattle.ir_parse_top.proofs.TextLaws.{texts_decided}
@@ -14,14 +16,18 @@ use Rattle.haft_run.specs.Schedule.{IsUpsetFree, machine_events}
 use Rattle.haft_run.specs.Turns.{run_on}
 use Rattle.haft_run.specs.Report.{report_of}
 use Rattle.haft_run.specs.Meaning.{IsGood, Means, Told}
+use Rattle.ir_check.specs.Faults.{IsFault}
+use Rattle.ir_check.proofs.Laws.{fault_excludes}
+use Rattle.haft_cli.specs.declared.command.Command.{Command}
+use Rattle.haft_cli.specs.declared.command.Command.TheVariants.{Check, Run}
 use Rattle.haft_cli.specs.declared.top.Status.{Status}
 use Rattle.haft_cli.specs.declared.top.Status.TheVariants.{Done, Refused, WriteFault, NoMemory}
 use Rattle.haft_cli.specs.declared.work.Work.{Work}
 use Rattle.haft_cli.specs.declared.work.Work.TheVariants.{Report, Refused as RefusedWork}
 use Rattle.haft_cli.specs.declared.command.Refusal.{Refusal}
-use Rattle.haft_cli.specs.declared.command.Refusal.TheVariants.{LongFirst, LongSecond, TextWord, TextByte, UnbuiltFirst, Schedule, UnbuiltSecond}
-use Rattle.haft_cli.specs.Command.{IsReport, IsRefused, result_on, run_report}
-use Rattle.haft_cli.specs.Work.{IsRunOf, IsWork, status_of, text_of}
+use Rattle.haft_cli.specs.declared.command.Refusal.TheVariants.{LongFirst, LongSecond, TextWord, TextByte, Module, UnbuiltFirst, Schedule, UnbuiltSecond}
+use Rattle.haft_cli.specs.Command.{Checks, IsCheckReport, IsRunReport, IsRefused, IsTextRefused, check_report, result_on, run_report}
+use Rattle.haft_cli.specs.Work.{IsRunOf, IsCheckOf, IsWork, AreTold, status_of, text_of}
 
 -- the report of the run, which tells of the source what it says
 pub record Writes (m : ModuleParts) (s : ScheduleParts) (old new : Option (List ℕ)) : Type 0 where
@@ -54,22 +60,58 @@ pub run_of_same : {E : Type 0} (m : ModuleParts) (s other : ScheduleParts) (resu
 run_of_same m s other (Ok work) e r = same_run m s other work e r
 run_of_same m s other (Err error) e r = tt
 
+-- the counts were written
+pub check-done : (status : Status) (work : Work) (old new : Option (List ℕ)) (rose : Type 0) (m : ModuleParts)
+    → ((status ≡ status_of work) × Puts old (text_of work) new) ⊎ ((status ≡ WriteFault) × rose × PutsPart old (text_of work) new)
+    → status ≡ Done → (status_of work ≡ Done → IsCheckOf m work) → Puts old (check_report m) new
+check-done status work old new rose m (inl w) done check = subst (λ text. Puts old text new) (check (sym w.0 ∙ done)).text w.1
+check-done status work old new rose m (inr w) done check = let clash : WriteFault ≡ Done = sym w.0 ∙ done in absurd cc
+
+-- a text that stands for an accepted module isn't refused
+pub not_text_refused : (text : List ℕ) (m : ModuleParts) (refusal : Refusal) → Checks text m → IsTextRefused text refusal → ⊥
+not_text_refused text m LongFirst c x = x
+not_text_refused text m LongSecond c x = x
+not_text_refused text m (TextWord line word) c x = texts_decided.never_both text m line (BadWord word) c.module_read x
+not_text_refused text m (TextByte line column) c x = texts_decided.never_both text m line (BadByte column) c.module_read x
+not_text_refused text m (Module kind at name) c x =
+    let same : x.0 ≡ m = texts_decided.one_module text x.0 m x.1 c.module_read in
+    fault_excludes m (record { kind = kind; at = at; name = name }) (subst (λ (n : ModuleParts). IsFault n (record { kind = kind; at = at; name = name })) same x.2) c.accepted
+not_text_refused text m UnbuiltFirst c x = x
+not_text_refused text m (Schedule line) c x = x
+not_text_refused text m UnbuiltSecond c x = x
+
 -- files that are to be refused have no report
-not_report : (first second text : List ℕ) (refusal : Refusal) → IsReport (Some first) (Some second) text → IsRefused (Some first) (Some second) refusal → ⊥
-not_report first second text LongFirst r x = let h = x first refl in let k = r.within.0 first refl in omega arith
-not_report first second text LongSecond r x = let h = x.1 second refl in let k = r.within.1 second refl in omega arith
-not_report first second text (TextWord line word) r x = texts_decided.never_both first r.m line (BadWord word) (r.module_read first refl) (x.1 first refl)
-not_report first second text (TextByte line column) r x = texts_decided.never_both first r.m line (BadByte column) (r.module_read first refl) (x.1 first refl)
-not_report first second text UnbuiltFirst r x = let u = x.1 first refl in u.2 (subst IsBuilt (texts_decided.one_module first r.m u.0 (r.module_read first refl) u.1) r.built)
-not_report first second text (Schedule line) r x = not_unfit second r.s.args r.s.lines line (r.schedule_read second refl) (x.2 second refl)
-not_report first second text UnbuiltSecond r x =
-    let u = x.2 second refl in
+not_run : (first second text : List ℕ) (refusal : Refusal) → IsRunReport (Some first) (Some second) text → IsRefused Run (Some first) (Some second) refusal → ⊥
+not_run first second text LongFirst r x = let h = x first refl in let k = r.within.0 first refl in omega arith
+not_run first second text LongSecond r x = let h = x.2 second refl in let k = r.within.1 second refl in omega arith
+not_run first second text (TextWord line word) r x = not_text_refused first r.m (TextWord line word) (r.checks first refl) (x.1 first refl)
+not_run first second text (TextByte line column) r x = not_text_refused first r.m (TextByte line column) (r.checks first refl) (x.1 first refl)
+not_run first second text (Module kind at name) r x = not_text_refused first r.m (Module kind at name) (r.checks first refl) (x.1 first refl)
+not_run first second text UnbuiltFirst r x =
+    let u = x.2 first refl in
+    u.3 (subst IsBuilt (texts_decided.one_module first r.m u.0 (r.checks first refl).module_read u.1) r.built)
+not_run first second text (Schedule line) r x = not_unfit second r.s.args r.s.lines line (r.schedule_read second refl) (x.3 second refl)
+not_run first second text UnbuiltSecond r x =
+    let u = x.3 second refl in
     u.2 (subst (λ (lines : List Entry). IsUpsetFree (events_of lines)) (same_entries second r.s u.0 (r.schedule_read second refl) u.1) r.upset_free)
 
+not_check : (first second text : List ℕ) (refusal : Refusal) → IsCheckReport (Some first) text → IsRefused Check (Some first) (Some second) refusal → ⊥
+not_check first second text LongFirst r x = let h = x first refl in let k = r.within first refl in omega arith
+not_check first second text LongSecond r x = let clash : Check ≡ Run = x.0 in absurd cc
+not_check first second text (TextWord line word) r x = not_text_refused first r.m (TextWord line word) (r.checks first refl) (x.1 first refl)
+not_check first second text (TextByte line column) r x = not_text_refused first r.m (TextByte line column) (r.checks first refl) (x.1 first refl)
+not_check first second text (Module kind at name) r x = not_text_refused first r.m (Module kind at name) (r.checks first refl) (x.1 first refl)
+not_check first second text UnbuiltFirst r x = let clash : Check ≡ Run = x.0 in absurd cc
+not_check first second text (Schedule line) r x = let clash : Check ≡ Run = x.0 in absurd cc
+not_check first second text UnbuiltSecond r x = let clash : Check ≡ Run = x.0 in absurd cc
+
 -- so their work is the line of a refusal
-pub status_of-refused : (first second : List ℕ) (work : Work) (refusal : Refusal) → IsWork (Some first) (Some second) work → IsRefused (Some first) (Some second) refusal → status_of work ≡ Refused
-status_of-refused first second (Report text) refusal w x = absurd (not_report first second text.items refusal w x)
-status_of-refused first second (RefusedWork line) refusal w x = refl
+pub told_refused : (command : Command) (left : Which → Option (List ℕ)) (first second : List ℕ) (work : Work) (refusal : Refusal) → AreTold command left first second → IsWork command (left First) (left Second) work → IsRefused command (Some first) (Some second) refusal → status_of work ≡ Refused
+told_refused Check left first second (Report text) refusal told w x =
+    absurd (not_check first second text.items refusal (subst (λ (file : Option (List ℕ)). IsCheckReport file text.items) told w) x)
+told_refused Run left first second (Report text) refusal told w x =
+    absurd (not_run first second text.items refusal (subst (λ (file : Option (List ℕ)). IsRunReport (Some first) file text.items) told.1 (subst (λ (file : Option (List ℕ)). IsRunReport file (left Second) text.items) told.0 w)) x)
+told_refused command left first second (RefusedWork line) refusal told w x = refl
 
 pub refused-done : (status : Status) (work : Work) (rose part : Type 0) (whole : Type 0) → ((status ≡ status_of work) × whole) ⊎ ((status ≡ WriteFault) × rose × part) → status_of work ≡ Refused → (rose → ⊥) → (status ≡ Refused) ⊎ (status ≡ NoMemory)
 refused-done status work rose part whole (inl w) e n = inl (w.0 ∙ e)

@@ -1,5 +1,5 @@
 -- What a call writes, where the sink tells it.
-use Rattle.std.specs.Prelude.{ℕ, ◌≡◌, ◌⊎◌, List, Option}
+use Rattle.std.specs.Prelude.{ℕ, ◌⊎◌, List, Option}
 use Rattle.haft_io.specs.Device.{Puts, PutsPart}
 use Rattle.haft_cli.specs.declared.command.Command.{Command}
 use Rattle.haft_cli.specs.declared.command.Refusal.{Refusal}

@@ -1,7 +1,6 @@
 //! The command line, and what is refused.
 ghost use Rattle.std.specs.Prelude.{◌≡◌, ◌++◌, map, string_bytes, codes, IfOk, OnOk};
 ghost use Rattle.std.specs.Fmt.{decimal};
-ghost use Rattle.std.specs.Option.{option_copied};
 ghost use Rattle.haft_cli.specs.Command.{command_of, limit_word, kind_word, name_part, module_line, line_of, text_line};
 
 use ir_check::Kind;
@@ -26,9 +25,15 @@ pub enum Refusal {
     /// The second file has more than 4,194,304 bytes.
     LongSecond,
     /// A line of the first file fits no form at its place. The word is its first unfit token, or `end`.
-    TextWord { line: u32, word: Name },
+    TextWord {
+        line: u32,
+        word: Name,
+    },
     /// No token begins at a column of a line of the first file.
-    TextByte { line: u32, col: u32 },
+    TextByte {
+        line: u32,
+        col: u32,
+    },
     /// The module of the first file isn't accepted: the kind of its fault, the place, and a name where one is told.
     Module {
         kind: Kind,
@@ -38,7 +43,9 @@ pub enum Refusal {
     /// The module of the first file isn't built.
     UnbuiltFirst,
     /// A line of the second file is the first unfit one of a schedule.
-    Schedule { line: u32 },
+    Schedule {
+        line: u32,
+    },
     /// The schedule of the second file has an upset.
     UnbuiltSecond,
 }
@@ -107,8 +114,8 @@ fn kind_word(kind: Kind) -> &'static [u8]
 }
 
 /// Adds the name that a fault tells.
-fn push_name(text: &mut Vec<u8>, name: Option<&Name>) -> Result<(), AllocError>
-    ensures { OnOk result (text.new.items ≡ text.old.items ++ name_part (option_copied name)) }
+fn push_name(text: &mut Vec<u8>, name: &Option<Name>) -> Result<(), AllocError>
+    ensures { OnOk result (text.new.items ≡ text.old.items ++ name_part name.now) }
 {
     if let Some(name) = name {
         text.extend_from_slice(b" ")?;
@@ -122,9 +129,9 @@ fn module_line(
     alloc: Global,
     kind: Kind,
     at: &[u8],
-    name: Option<&Name>,
+    name: &Option<Name>,
 ) -> Result<Vec<u8>, AllocError>
-    ensures { IfOk result (λ text. text.items ≡ module_line kind at.now (option_copied name)) }
+    ensures { IfOk result (λ text. text.items ≡ module_line kind at.now name.now) }
 {
     let mut text = Vec::from_slice(alloc, b"refused module ")?;
     text.extend_from_slice(kind_word(kind))?;
@@ -145,9 +152,7 @@ impl Refusal {
             Refusal::LongSecond => Vec::from_slice(alloc, b"refused long second\n"),
             Refusal::TextWord { line, word } => text_line(alloc, *line, b" ", word.bytes()),
             Refusal::TextByte { line, col } => byte_line(alloc, *line, *col),
-            Refusal::Module { kind, at, name } => {
-                module_line(alloc, *kind, at.bytes(), name.as_ref())
-            }
+            Refusal::Module { kind, at, name } => { module_line(alloc, *kind, at.bytes(), name) }
             Refusal::UnbuiltFirst => Vec::from_slice(alloc, b"refused unbuilt first\n"),
             Refusal::Schedule { line } => schedule_line(alloc, *line),
             Refusal::UnbuiltSecond => Vec::from_slice(alloc, b"refused unbuilt second\n"),

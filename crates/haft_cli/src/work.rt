@@ -236,11 +236,7 @@ fn prepare_run<I: Inputs>(alloc: Global, inputs: &mut I) -> Result<Work, Stopped
 }
 
 /// The work of a command for its files, which are read whole, the first before the second.
-pub fn prepare<I: Inputs>(
-    alloc: Global,
-    command: Command,
-    inputs: &mut I,
-) -> Result<Work, Stopped>
+pub fn prepare<I: Inputs>(alloc: Global, command: Command, inputs: &mut I) -> Result<Work, Stopped>
     ensures work { IfOk result (IsWork command (I.left inputs.old Which.First) (I.left inputs.old Which.Second)) }
     ensures run { (first second : List ℕ) (m : ModuleParts) (s : ScheduleParts) → command ≡ Run → I.left inputs.old Which.First ≡ Some first → I.left inputs.old Which.Second ≡ Some second
         → IsWithin first → IsWithin second → Runs first second m s → IfOk result (IsRunOf m s) }

@@ -1,13 +1,14 @@
 use Rattle.haft_io.specs.declared.device.Which.TheVariants.{First, Second}
+use Rattle.haft_cli.specs.declared.command.Command.TheVariants.{Run}
 use Rattle.haft_cli.proofs.Preparing.{long_second, work_for, run_for, held_before, held_as}
-use Rattle.haft_cli.proofs.work.prepare.Goals as goal
+use Rattle.haft_cli.proofs.work.prepare_run.Goals as goal
 
 pub returns-in_default-clause-work : goal.returns-in_default-clause-work
-returns-in_default-clause-work g c = c.in_ok-refused.ensures.work (g.I.Inputs.left c.args.inputs.now First) (g.I.Inputs.left c.args.inputs.now Second) (rw c.in_default.is at c.in_ok-first.ensures.long)
+returns-in_default-clause-work g c = c.in_ok-refused.ensures.work Run (g.I.Inputs.left c.args.inputs.now First) (g.I.Inputs.left c.args.inputs.now Second) (rw c.in_default.is at c.in_ok-first.ensures.long)
 
 pub returns-in_default-2-clause-work : goal.returns-in_default-2-clause-work
 returns-in_default-2-clause-work g c =
-    c.in_ok-refused-2.ensures.work (g.I.Inputs.left c.args.inputs.now First) (g.I.Inputs.left c.args.inputs.now Second)
+    c.in_ok-refused-2.ensures.work Run (g.I.Inputs.left c.args.inputs.now First) (g.I.Inputs.left c.args.inputs.now Second)
     (long_second (g.I.Inputs.left c.args.inputs.now First) (g.I.Inputs.left c.args.inputs.now Second) (g.I.Inputs.left c.read_text.new.inputs Second) c.in-Some.first.items
     (rw c.in-Some.is at c.in_ok-first.ensures.bytes) (rw c.in-Some.is at c.in_ok-first.ensures.within) c.in_ok-first.ensures.other_left (rw c.in_default-2.is at c.in_ok-second.ensures.long))
 

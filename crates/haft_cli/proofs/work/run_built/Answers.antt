@@ -1,27 +1,29 @@
-use Rattle.std.proofs.Common.{◌≡◌, List, Some, Err, ap, sym, subst}
+use Rattle.std.proofs.Common.{◌≡◌, List, Some, Err, ap, refl, sym, subst}
 use Rattle.sched_file.specs.declared.entries.Line.{Line as Entry}
 use Rattle.sched_file.specs.Schedule.{UnfitLine}
 use Rattle.sched_file.specs.Events.{events_of}
 use Rattle.sched_file.proofs.SoFar.{not_unfit}
 use Rattle.haft_run.specs.Schedule.{IsUpsetFree}
 use Rattle.haft_cli.specs.Command.{IsWithin, IsBuiltText}
+use Rattle.haft_cli.specs.declared.command.Command.TheVariants.{Run}
 use Rattle.haft_cli.proofs.Files.{for_some}
 use Rattle.haft_cli.proofs.Finishes.{same_entries, run_of_same}
 use Rattle.haft_cli.proofs.work.run_built.Goals as goal
 
 pub returns-in-Ok-clause-work : goal.returns-in-Ok-clause-work
-returns-in-Ok-clause-work c = λ first within text. c.run_schedule.ensures.work first c.args.second.now within c.requires.within text c.in-Ok.ensures.schedule
+returns-in-Ok-clause-work c = λ first within checks. c.run_schedule.ensures.work first c.args.second.now within c.requires.within checks c.in-Ok.ensures.schedule
 
 pub returns-in-Ok-clause-run : goal.returns-in-Ok-clause-run
 returns-in-Ok-clause-run c = λ s schedule free.
     let same : c.in-Ok.s.lines ≡ s.lines = same_entries c.args.second.now c.in-Ok.s s c.in-Ok.ensures.schedule schedule in
-    run_of_same c.args.m.now c.in-Ok.s s c.run_schedule.result same (c.run_schedule.ensures.run (subst (λ (lines : List Entry). IsUpsetFree (events_of lines)) (sym same) free))
+    run_of_same c.args.a.now c.in-Ok.s s c.run_schedule.result same (c.run_schedule.ensures.run (subst (λ (lines : List Entry). IsUpsetFree (events_of lines)) (sym same) free))
 
 pub returns-in-Err-Refused-clause-work : goal.returns-in-Err-Refused-clause-work
-returns-in-Err-Refused-clause-work c = λ first within text.
-    c.refused.ensures.work (Some first) (Some c.args.second.now) (
+returns-in-Err-Refused-clause-work c = λ first within checks.
+    c.refused.ensures.work Run (Some first) (Some c.args.second.now) (
+      refl,
       (for_some IsWithin first within, for_some IsWithin c.args.second.now c.requires.within),
-      for_some IsBuiltText first (c.args.m.now, text, c.requires.built),
+      for_some IsBuiltText first (c.args.a.now, checks.module_read, checks.accepted, c.requires.built),
       for_some (λ bytes. UnfitLine bytes c.in-Err-Refused.line) c.args.second.now (c.in-Err-Refused.ensures.unfit c.in-Err-Refused.line (ap Err c.in-Err-Refused.field-0-is)),
     )
 

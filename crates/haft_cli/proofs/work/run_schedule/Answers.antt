@@ -1,25 +1,25 @@
-use Rattle.std.proofs.Common.{◌≡◌, List, ℕ, Some, refl, ap, sym, subst, ◌∙◌}
+use Rattle.std.proofs.Common.{Some, refl, ap, subst, ◌∙◌}
 use Rattle.std.proofs.lemmas.Bool.{iff_false}
-use Rattle.ir_parse_top.specs.Text.{Text}
 use Rattle.sched_file.specs.Schedule.{IsSchedule}
 use Rattle.haft_run.specs.Meaning.{Means, Told}
 use Rattle.haft_run.specs.Report.{report_of}
-use Rattle.haft_cli.specs.Command.{IsWithin, IsBuiltText, HasUpset}
+use Rattle.haft_cli.specs.Command.{IsWithin, IsBuiltText, HasUpset, Checks}
+use Rattle.haft_cli.specs.declared.command.Command.TheVariants.{Run}
 use Rattle.haft_cli.proofs.Files.{for_some}
 use Rattle.haft_cli.proofs.work.run_schedule.Goals as goal
 
 pub returns-then-not-upset_free-clause-work : goal.returns-then-not-upset_free-clause-work
-returns-then-not-upset_free-clause-work c = λ first second first_within second_within text schedule.
-    c.refused.ensures.work (Some first) (Some second)
-    ((for_some IsWithin first first_within, for_some IsWithin second second_within), for_some IsBuiltText first (c.args.m.now, text, c.requires.built), for_some HasUpset second (c.args.s.now, schedule, iff_false c.upset_free.ensures c.if-not-upset_free.true))
+returns-then-not-upset_free-clause-work c = λ first second first_within second_within checks schedule.
+    c.refused.ensures.work Run (Some first) (Some second)
+    (refl, (for_some IsWithin first first_within, for_some IsWithin second second_within), for_some IsBuiltText first (c.args.a.now, checks.module_read, checks.accepted, c.requires.built), for_some HasUpset second (c.args.s.now, schedule, iff_false c.upset_free.ensures c.if-not-upset_free.true))
 
 pub returns-clause-work : goal.returns-clause-work
-returns-clause-work c = λ first second first_within second_within text schedule.
+returns-clause-work c = λ first second first_within second_within checks schedule.
     record {
-      m = c.args.m.now;
+      m = c.args.a.now;
       s = c.args.s.now;
       within = (for_some IsWithin first first_within, for_some IsWithin second second_within);
-      module_read = for_some (λ bytes. Text bytes c.args.m.now) first text;
+      checks = for_some (λ bytes. Checks bytes c.args.a.now) first checks;
       built = c.requires.built;
       schedule_read = for_some (λ bytes. IsSchedule bytes c.args.s.now.args c.args.s.now.lines) second schedule;
       upset_free = c.upset_free.ensures.0 c.if-not-upset_free.false;
@@ -31,6 +31,6 @@ returns-clause-run c = λ free.
     record {
       done = refl;
       text = c.in_ok-text.ensures ∙ ap report_of c.in_ok-outcome.ensures.exact;
-      told = subst (Told c.args.m.now) c.in_ok-outcome.ensures.exact c.in_ok-outcome.ensures.told;
-      means = λ good. subst (Means c.args.m.now) c.in_ok-outcome.ensures.exact (c.in_ok-outcome.ensures.meaning good);
+      told = subst (Told c.args.a.now) c.in_ok-outcome.ensures.exact c.in_ok-outcome.ensures.told;
+      means = λ good. subst (Means c.args.a.now) c.in_ok-outcome.ensures.exact (c.in_ok-outcome.ensures.meaning good);
     }
