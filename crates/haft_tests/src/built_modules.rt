@@ -1,17 +1,12 @@
-//! Which modules are built, and which schedules have no upset.
-use crate::runs::module_of;
+//! Which accepted modules are built, and which schedules have no upset.
+use crate::runs::accepted_of;
 use haft_run::{built, upset_free};
 use sched_file::parse_schedule;
 
-/// Texts of modules, and whether these are built.
+/// Texts of accepted modules, and whether these are built.
 const MODULES: &[(&str, bool)] = &[
-    ("", false),
     ("define i32 @main() {\n  ret i32 0\n}\n", true),
     ("define i32 @main() {\nentry:\n  ret i32 0\n}\n", true),
-    ("define i32 @main() {\n}\n", false),
-    ("define void @main() {\n  ret void\n}\n", false),
-    ("define i32 @main(i32 %x) {\n  ret i32 0\n}\n", false),
-    ("define i32 @other() {\n  ret i32 0\n}\n", false),
     (
         "define i32 @main() {\n  ret i32 0\n}\ndefine i32 @other() {\n  ret i32 0\n}\n",
         false,
@@ -33,19 +28,11 @@ const MODULES: &[(&str, bool)] = &[
         true,
     ),
     (
-        "declare void @haft_out(i64)\ndeclare void @haft_out(i64)\ndefine i32 @main() {\n  ret i32 0\n}\n",
-        false,
-    ),
-    (
-        "declare void @haft_out(i32)\ndefine i32 @main() {\n  ret i32 0\n}\n",
-        false,
-    ),
-    (
-        "declare i64 @haft_out(i64)\ndefine i32 @main() {\n  ret i32 0\n}\n",
-        false,
-    ),
-    (
         "declare ptr @malloc(i64)\ndefine i32 @main() {\n  ret i32 0\n}\n",
+        false,
+    ),
+    (
+        "declare void @haft_out(i64)\ndeclare i64 @haft_arg(i64)\ndefine i32 @main() {\n  ret i32 0\n}\n",
         false,
     ),
     // A declare of no external is dropped.
@@ -53,21 +40,13 @@ const MODULES: &[(&str, bool)] = &[
         "declare void @other(i64)\ndefine i32 @main() {\n  ret i32 0\n}\n",
         true,
     ),
-    (
-        "define i32 @main() {\n  call void @haft_out(i64 1)\n  ret i32 0\n}\n",
-        false,
-    ),
-    (
-        "declare void @haft_out(i64)\ndefine i32 @main() {\nentry:\n  %entry = add i64 1, 1\n  ret i32 0\n}\n",
-        false,
-    ),
 ];
 
 #[test]
 fn modules_of_one_block_are_built(rt: HostRuntime) {
     for (text, want) in MODULES {
-        let m = module_of(&rt, rt.alloc(), text);
-        assert!(rt; built(&m) == *want, "for {text:?}");
+        let a = accepted_of(&rt, rt.alloc(), text);
+        assert!(rt; built(&a) == *want, "for {text:?}");
     }
 }
 

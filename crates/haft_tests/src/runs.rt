@@ -3,6 +3,7 @@ ghost use Rattle.std.specs.Prelude.{IsTrue};
 ghost use Rattle.haft_run.specs.Built.{IsBuilt};
 
 use haft_run::{RunResult, built, report, run, upset_free};
+use ir_check::{Accepted, accept};
 use ir_core::Module;
 use ir_parse_top::parse_module;
 use sched_file::parse_schedule;
@@ -22,24 +23,35 @@ pub fn module_of(rt: &impl Abort, alloc: Global, text: &str) -> Module {
     }
 }
 
+/// The accepted module of a text that has one.
+pub fn accepted_of(rt: &impl Abort, alloc: Global, text: &str) -> Accepted {
+    match accept(alloc, module_of(rt, alloc, text)) {
+        Ok(accepted) => accepted,
+        Err(error) => {
+            drop(error);
+            panic!(rt; "a module is not accepted")
+        }
+    }
+}
+
 /// Whether the module is built.
-fn is_built(m: &Module) -> bool
-    ensures { IsTrue result → IsBuilt m.now }
+fn is_built(a: &Accepted) -> bool
+    ensures { IsTrue result → IsBuilt a.now }
 {
-    built(m)
+    built(a)
 }
 
 /// What a module that is built comes to over a schedule without upsets.
-pub fn result_of(rt: &impl Abort, alloc: Global, m: &Module, schedule: &str) -> RunResult {
+pub fn result_of(rt: &impl Abort, alloc: Global, a: &Accepted, schedule: &str) -> RunResult {
     assert!(rt; schedule.len() <= 4_194_304);
     let schedule = parse_schedule(alloc, schedule.as_bytes()).expect(rt, "a schedule is unfit");
-    assert!(rt; is_built(m));
+    assert!(rt; is_built(a));
     assert!(rt; upset_free(&schedule));
-    run(alloc, m, &schedule).expect(rt, "no memory to run")
+    run(alloc, a, &schedule).expect(rt, "no memory to run")
 }
 
 /// The report of that run.
-pub fn report_of(rt: &impl Abort, alloc: Global, m: &Module, schedule: &str) -> Vec<u8> {
-    let result = result_of(rt, alloc, m, schedule);
+pub fn report_of(rt: &impl Abort, alloc: Global, a: &Accepted, schedule: &str) -> Vec<u8> {
+    let result = result_of(rt, alloc, a, schedule);
     report(alloc, &result).expect(rt, "no memory for a report")
 }
