@@ -352,23 +352,26 @@ fn modules_are_accepted_or_have_a_first_fault(rt: HostRuntime) {
     }
 }
 
-/// A module whose one function has so many registers, and its entry's name besides.
-fn with_names(alloc: Global, count: u32) -> Result<String, AllocError> {
+/// A function with so many names, each a label of a block without a line.
+fn with_labels(alloc: Global, count: u32) -> Result<String, AllocError> {
     let mut text = String::from_str(alloc, "define i32 @main() {\n")?;
     for n in 0..count {
-        let line = format!(in alloc; "  %r{n} = add i8 1, 1\n")?;
+        let line = format!(in alloc; "{n}:\n")?;
         text.push_str(line.as_str())?;
     }
-    text.push_str("  ret i32 0\n}\n")?;
+    text.push_str("}\n")?;
     Ok(text)
 }
 
 #[test]
 fn a_function_has_at_most_65536_names(rt: HostRuntime) {
-    for (count, wanted) in [(65_535, "accepted"), (65_536, "Limit.Registers @main")] {
-        let text = with_names(rt.alloc(), count).expect(&rt, "no memory for a text");
+    for (count, wanted) in [
+        (65_536, "BadTerminator main/0"),
+        (65_537, "Limit.Registers @main"),
+    ] {
+        let text = with_labels(rt.alloc(), count).expect(&rt, "no memory for a text");
         let found = verdict(&rt, rt.alloc(), text.as_str());
-        assert!(rt; found.as_str() == wanted, "{count} registers: {found}");
+        assert!(rt; found.as_str() == wanted, "{count} names: {found}");
     }
 }
 
@@ -396,16 +399,15 @@ fn width(rt: &impl Abort, accepted: &Accepted, name: &str) -> u32 {
 
 /// The address of a global.
 fn address(rt: &impl Abort, accepted: &Accepted, name: &str) -> u64 {
-    let sym = accepted.module().find_sym(name.as_bytes()).expect(
-        rt,
-        "no such name",
-    );
+    let sym = accepted
+        .module()
+        .find_sym(name.as_bytes())
+        .expect(rt, "no such name");
     accepted.layout().address(sym).expect(rt, "no global")
 }
 
 /// A module with registers of each width.
-const WIDE: &str =
-    "@a = global i8 0
+const WIDE: &str = "@a = global i8 0
 @b = global i64 0
 define i32 @f(i1 %one, i8 %byte, i16 %short, i32 %word, i64 %long, ptr %place) {
   %pair = cmpxchg ptr %place, i8 0, i8 1 seq_cst seq_cst

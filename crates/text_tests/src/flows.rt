@@ -152,14 +152,31 @@ const PLACES: &[(&str, &str, u32, u32, bool)] = &[
     ("the loop's register behind the loop", "i", 5, 0, true),
     ("one side's register behind the loop", "r", 5, 0, false),
     ("the last block's register in the entry", "z", 0, 0, false),
-    ("any register in a block that no path reaches", "z", 6, 0, true),
-    ("the register that such a block assigns, there", "u", 6, 0, true),
-    ("the register that such a block assigns, behind it", "u", 5, 0, false),
+    (
+        "any register in a block that no path reaches",
+        "z",
+        6,
+        0,
+        true,
+    ),
+    (
+        "the register that such a block assigns, there",
+        "u",
+        6,
+        0,
+        true,
+    ),
+    (
+        "the register that such a block assigns, behind it",
+        "u",
+        5,
+        0,
+        false,
+    ),
 ];
 
 /// A diamond whose one side assigns `%r`, then a loop of one block, and a block that no path reaches.
-const PATHS: &str =
-    "define i32 @f(i1 %c) {
+const PATHS: &str = "define i32 @f(i1 %c) {
   %e = add i32 1, 1
   br i1 %c, label %a, label %b
 a:
@@ -183,14 +200,7 @@ n:
 ";
 
 /// Whether every path to a place of a function assigns the register with this name.
-fn assigned(
-    rt: &impl Abort,
-    alloc: Global,
-    f: &Func,
-    name: &str,
-    block: u32,
-    inst: u32,
-) -> bool {
+fn assigned(rt: &impl Abort, alloc: Global, f: &Func, name: &str, block: u32, inst: u32) -> bool {
     let reg = f.find_loc(name.as_bytes()).expect(rt, "no such name");
     assert!(rt; (block as usize) < f.blocks().len());
     let e = edges(alloc, f).expect(rt, "no memory for edges");
@@ -216,9 +226,7 @@ fn fault_text(
     error: &FlowError,
 ) -> Result<String, AllocError> {
     match error {
-        FlowError::PhiMismatch { block, inst } => {
-            format!(in alloc; "phi {block} {inst}")
-        }
+        FlowError::PhiMismatch { block, inst } => { format!(in alloc; "phi {block} {inst}") }
         FlowError::UseBeforeDef { block, inst, reg } => {
             assert!(rt; reg.0 < f.loc_count());
             let name = str::from_utf8(f.loc_name(*reg)).unwrap_or("no UTF-8");

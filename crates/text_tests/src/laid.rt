@@ -70,11 +70,7 @@ fn sizes(alloc: Global, m: &Module, layout: &Layout) -> Result<String, AllocErro
 }
 
 /// Adds a number and a blank, or a word for none.
-fn add_number(
-    alloc: Global,
-    text: &mut String,
-    number: Option<u64>,
-) -> Result<(), AllocError> {
+fn add_number(alloc: Global, text: &mut String, number: Option<u64>) -> Result<(), AllocError> {
     let word = match number {
         Some(number) => format!(in alloc; "{number} ")?,
         None => String::from_str(alloc, "none ")?,
@@ -108,7 +104,11 @@ fn offsets(alloc: Global, m: &Module, layout: &Layout) -> Result<String, AllocEr
     let mut text = String::new(alloc);
     for global in m.globals() {
         if let Some(gep) = computed(&global.init) {
-            add_number(alloc, &mut text, layout.offset(&gep.base, gep.index.items()))?;
+            add_number(
+                alloc,
+                &mut text,
+                layout.offset(&gep.base, gep.index.items()),
+            )?;
         }
     }
     Ok(text)
@@ -316,12 +316,37 @@ const ACCESSES: &[(&str, u64, u64, bool)] = &[
     ("a global without bytes", 65_584, 1, false),
     ("null", 0, 1, false),
     ("before the first thread's stack", 16_777_215, 1, false),
-    ("the first byte of the first thread's stack", 16_777_216, 1, true),
-    ("the last byte of the first thread's stack", 16_793_599, 1, true),
-    ("the last 8 bytes of the first thread's stack", 16_793_592, 8, true),
+    (
+        "the first byte of the first thread's stack",
+        16_777_216,
+        1,
+        true,
+    ),
+    (
+        "the last byte of the first thread's stack",
+        16_793_599,
+        1,
+        true,
+    ),
+    (
+        "the last 8 bytes of the first thread's stack",
+        16_793_592,
+        8,
+        true,
+    ),
     ("over the border of two stacks", 16_793_596, 8, false),
-    ("the start of the second thread's stack", 16_793_600, 8, true),
-    ("the last 8 bytes of the last thread's stack", 17_825_784, 8, true),
+    (
+        "the start of the second thread's stack",
+        16_793_600,
+        8,
+        true,
+    ),
+    (
+        "the last 8 bytes of the last thread's stack",
+        17_825_784,
+        8,
+        true,
+    ),
     ("behind the last thread's stack", 17_825_792, 1, false),
     ("before the heap", 67_108_856, 8, false),
     ("the start of the heap", 67_108_864, 8, true),
@@ -329,7 +354,12 @@ const ACCESSES: &[(&str, u64, u64, bool)] = &[
     ("the last 8 bytes of the heap", 68_157_432, 8, true),
     ("over the end of the heap", 68_157_436, 8, false),
     ("behind the heap", 68_157_440, 1, false),
-    ("the last 8 addresses of all", 18_446_744_073_709_551_608, 8, false),
+    (
+        "the last 8 addresses of all",
+        18_446_744_073_709_551_608,
+        8,
+        false,
+    ),
 ];
 
 #[test]
