@@ -294,7 +294,7 @@ fn indices_have_these_offsets(rt: HostRuntime) {
 }
 
 /// Accesses, the address and the size of each, and whether it is valid. The globals are a byte at 65536, 24 bytes at
-/// 65552 and none at 65584.
+/// 65552 and none at 65584; a thread's stack is named by the thread's number.
 const ACCESSES: &[(&str, u64, u64, bool)] = &[
     ("the byte of the first global", 65_536, 1, true),
     ("behind the byte", 65_537, 1, false),
@@ -315,51 +315,21 @@ const ACCESSES: &[(&str, u64, u64, bool)] = &[
     ("16 bytes", 65_552, 16, false),
     ("a global without bytes", 65_584, 1, false),
     ("null", 0, 1, false),
-    ("before the first thread's stack", 16_777_215, 1, false),
-    (
-        "the first byte of the first thread's stack",
-        16_777_216,
-        1,
-        true,
-    ),
-    (
-        "the last byte of the first thread's stack",
-        16_793_599,
-        1,
-        true,
-    ),
-    (
-        "the last 8 bytes of the first thread's stack",
-        16_793_592,
-        8,
-        true,
-    ),
+    ("before all stacks", 16_777_215, 1, false),
+    ("the first byte of stack 0", 16_777_216, 1, true),
+    ("the last byte of stack 0", 16_793_599, 1, true),
+    ("the last 8 bytes of stack 0", 16_793_592, 8, true),
     ("over the border of two stacks", 16_793_596, 8, false),
-    (
-        "the start of the second thread's stack",
-        16_793_600,
-        8,
-        true,
-    ),
-    (
-        "the last 8 bytes of the last thread's stack",
-        17_825_784,
-        8,
-        true,
-    ),
-    ("behind the last thread's stack", 17_825_792, 1, false),
+    ("the start of stack 1", 16_793_600, 8, true),
+    ("the last 8 bytes of stack 63", 17_825_784, 8, true),
+    ("behind stack 63", 17_825_792, 1, false),
     ("before the heap", 67_108_856, 8, false),
     ("the start of the heap", 67_108_864, 8, true),
     ("the last byte of the heap", 68_157_439, 1, true),
     ("the last 8 bytes of the heap", 68_157_432, 8, true),
     ("over the end of the heap", 68_157_436, 8, false),
     ("behind the heap", 68_157_440, 1, false),
-    (
-        "the last 8 addresses of all",
-        18_446_744_073_709_551_608,
-        8,
-        false,
-    ),
+    ("the last 8 of all", 18_446_744_073_709_551_608, 8, false),
 ];
 
 #[test]
