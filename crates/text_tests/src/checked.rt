@@ -1,5 +1,5 @@
 //! Modules that are accepted, and the first fault of others.
-use crate::cases::parts;
+use crate::cases::{Asked, compare};
 use crate::told::module_of;
 use ir_check::{Accepted, CheckError, Kind, accept};
 use ir_core::Name;
@@ -62,7 +62,7 @@ fn refusal(alloc: Global, error: &CheckError) -> Result<String, AllocError> {
 }
 
 /// What is told of a text's module: that it is accepted, or its first fault.
-fn verdict(rt: &impl Abort, alloc: Global, text: &str) -> String {
+pub fn verdict(rt: &impl Abort, alloc: Global, text: &str) -> String {
     let told = match accept(alloc, module_of(rt, alloc, text)) {
         Ok(accepted) => {
             drop(accepted);
@@ -345,11 +345,7 @@ a:
 
 #[test]
 fn modules_are_accepted_or_have_a_first_fault(rt: HostRuntime) {
-    for case in MODULES.split("\n== ").skip(1) {
-        let (name, text, wanted) = parts(&rt, case);
-        let found = verdict(&rt, rt.alloc(), text);
-        assert!(rt; found.as_str() == wanted, "{name}: {found}");
-    }
+    compare(&rt, rt.alloc(), MODULES, Asked::Verdict);
 }
 
 /// A function with so many names, each a label of a block without a line.

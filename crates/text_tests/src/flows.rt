@@ -1,5 +1,5 @@
 //! Control flow: edges, loop heads, what is assigned on every path, and the first fault of phis and uses.
-use crate::cases::parts;
+use crate::cases::{Asked, compare};
 use crate::told::module_of;
 use ir_core::Func;
 use ir_flow::{Edges, FlowError, assigned_at, edges, flow_check, loop_heads};
@@ -34,7 +34,7 @@ fn edges_text(alloc: Global, e: &Edges) -> Result<String, AllocError> {
 }
 
 /// The edges and the loop heads of a text's first function.
-fn told_edges(rt: &impl Abort, alloc: Global, text: &str) -> String {
+pub fn told_edges(rt: &impl Abort, alloc: Global, text: &str) -> String {
     let m = module_of(rt, alloc, text);
     let e = edges(alloc, first(rt, m.funcs())).expect(rt, "no memory for edges");
     drop(m);
@@ -127,11 +127,7 @@ e:
 
 #[test]
 fn functions_have_these_edges_and_loop_heads(rt: HostRuntime) {
-    for case in EDGES.split("\n== ").skip(1) {
-        let (name, text, wanted) = parts(&rt, case);
-        let found = told_edges(&rt, rt.alloc(), text);
-        assert!(rt; found.as_str() == wanted, "{name}: {found}");
-    }
+    compare(&rt, rt.alloc(), EDGES, Asked::Edges);
 }
 
 /// A name, the register of which it is asked whether it is assigned, and the place, a block and an instruction.
@@ -219,7 +215,7 @@ fn fault_text(
 }
 
 /// The first fault of flow of a text's first function, or that it has none.
-fn told_flow(rt: &impl Abort, alloc: Global, text: &str) -> String {
+pub fn told_flow(rt: &impl Abort, alloc: Global, text: &str) -> String {
     let m = module_of(rt, alloc, text);
     let f = first(rt, m.funcs());
     let told = match flow_check(alloc, f) {
@@ -290,9 +286,5 @@ b:
 
 #[test]
 fn functions_have_a_first_fault_of_flow_or_none(rt: HostRuntime) {
-    for case in FLOWS.split("\n== ").skip(1) {
-        let (name, text, wanted) = parts(&rt, case);
-        let found = told_flow(&rt, rt.alloc(), text);
-        assert!(rt; found.as_str() == wanted, "{name}: {found}");
-    }
+    compare(&rt, rt.alloc(), FLOWS, Asked::Flow);
 }

@@ -1,5 +1,5 @@
 //! Where modules lie in memory: sizes of types, addresses of globals, offsets, and valid accesses.
-use crate::cases::parts;
+use crate::cases::{Asked, compare};
 use crate::told::module_of;
 use ir_core::{Block, ConstGep, Init, Inst, Module, Ty};
 use ir_layout::{Layout, LimitKind, layout, types_known};
@@ -114,22 +114,22 @@ fn offsets(alloc: Global, m: &Module, layout: &Layout) -> Result<String, AllocEr
     Ok(text)
 }
 
-/// What is asked of a layout.
+/// What is measured of a module.
 #[derive(Clone, Copy)]
-enum Asked {
+pub enum Measured {
     Sizes,
     Addresses,
     Offsets,
 }
 
 /// The answers for a text, in the order of its lines.
-fn answers(rt: &impl Abort, alloc: Global, text: &str, asked: Asked) -> String {
+pub fn told_layout(rt: &impl Abort, alloc: Global, text: &str, what: Measured) -> String {
     let m = module_of(rt, alloc, text);
     let layout = layout_of(rt, alloc, &m);
-    let told = match asked {
-        Asked::Sizes => sizes(alloc, &m, &layout),
-        Asked::Addresses => addresses(alloc, &m, &layout),
-        Asked::Offsets => offsets(alloc, &m, &layout),
+    let told = match what {
+        Measured::Sizes => sizes(alloc, &m, &layout),
+        Measured::Addresses => addresses(alloc, &m, &layout),
+        Measured::Offsets => offsets(alloc, &m, &layout),
     };
     drop(layout);
     drop(m);
@@ -268,29 +268,22 @@ const OFFSETS: &str = "
 
 #[test]
 fn types_have_these_sizes(rt: HostRuntime) {
-    for case in SIZES.split("\n== ").skip(1) {
-        let (name, text, wanted) = parts(&rt, case);
-        let found = answers(&rt, rt.alloc(), text, Asked::Sizes);
-        assert!(rt; found.as_str().trim_end() == wanted, "{name}: {found}");
-    }
+    compare(&rt, rt.alloc(), SIZES, Asked::Measured(Measured::Sizes));
 }
 
 #[test]
 fn globals_stand_at_these_addresses(rt: HostRuntime) {
-    for case in ADDRESSES.split("\n== ").skip(1) {
-        let (name, text, wanted) = parts(&rt, case);
-        let found = answers(&rt, rt.alloc(), text, Asked::Addresses);
-        assert!(rt; found.as_str().trim_end() == wanted, "{name}: {found}");
-    }
+    compare(
+        &rt,
+        rt.alloc(),
+        ADDRESSES,
+        Asked::Measured(Measured::Addresses),
+    );
 }
 
 #[test]
 fn indices_have_these_offsets(rt: HostRuntime) {
-    for case in OFFSETS.split("\n== ").skip(1) {
-        let (name, text, wanted) = parts(&rt, case);
-        let found = answers(&rt, rt.alloc(), text, Asked::Offsets);
-        assert!(rt; found.as_str().trim_end() == wanted, "{name}: {found}");
-    }
+    compare(&rt, rt.alloc(), OFFSETS, Asked::Measured(Measured::Offsets));
 }
 
 /// Accesses, the address and the size of each, and whether it is valid. The globals are a byte at 65536, 24 bytes at
@@ -412,18 +405,15 @@ define void @f(%T %b) {
 ";
 
 /// Whether the names of types in a text are known.
-fn known(rt: &impl Abort, alloc: Global, text: &str) -> &'static str {
+pub fn told_known(rt: &impl Abort, alloc: Global, text: &str) -> String {
     let m = module_of(rt, alloc, text);
     let known = types_known(&m);
     drop(m);
-    if known { "known" } else { "unknown" }
+    let word = if known { "known" } else { "unknown" };
+    String::from_str(alloc, word).expect(rt, "no memory for a text")
 }
 
 #[test]
 fn names_of_types_are_known_or_not(rt: HostRuntime) {
-    for case in KNOWN.split("\n== ").skip(1) {
-        let (name, text, wanted) = parts(&rt, case);
-        let found = known(&rt, rt.alloc(), text);
-        assert!(rt; found == wanted, "{name}: {found}");
-    }
+    compare(&rt, rt.alloc(), KNOWN, Asked::Known);
 }
