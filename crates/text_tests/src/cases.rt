@@ -1,4 +1,5 @@
-//! Tables of texts. In a table each case is a line `== NAME`, the lines of its text, and a line `-- WANTED`.
+//! Tables of texts, with answers worked out by hand. In a table each case is a line `== NAME`, the lines of its text, and a
+//! line `-- WANTED`.
 use crate::checked::verdict;
 use crate::flows::{told_edges, told_flow};
 use crate::laid::{Measured, told_known, told_layout};

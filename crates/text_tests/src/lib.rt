@@ -1,5 +1,5 @@
 //! Tests of whole texts: what they stand for, and the first line that fits no form; what the checker and the layers below it
-//! tell of their modules. Tables of texts are constants (`cases.rt`), and the answers in them were worked out by hand.
+//! tell of their modules. Tables of texts are constants; `cases.rt` says how those of the checker and its layers are written.
 #![tactic(auto)]
 
 #[cfg(test)]
