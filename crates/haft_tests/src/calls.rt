@@ -1,6 +1,6 @@
 //! What the top call answers and writes.
 use crate::texts::{
-    BAD_BYTE, COUNT, REPORT, SUM, TURNS, TWO_BLOCKS, UNENDED, UNKNOWN_OPERATION, bytes_of,
+    BAD_BYTE, COUNT, REPORT, SUM, TURNS, TWO_BLOCKS, UNENDED, UNKNOWN_OPERATION, bytes_of, check_on,
     inputs_of, run_on, sink_of, words_of,
 };
 use haft_cli::{Status, haft};
@@ -36,7 +36,7 @@ const REFUSALS: &[(&str, &str, &str)] = &[
     (UNKNOWN_OPERATION, TURNS, "refused text 3 fadd\n"),
     (UNENDED, TURNS, "refused text 6 end\n"),
     (BAD_BYTE, TURNS, "refused text 4 byte 27\n"),
-    ("", TURNS, "refused unbuilt first\n"),
+    ("", TURNS, "refused module NoMain -\n"),
     (TWO_BLOCKS, TURNS, "refused unbuilt first\n"),
     (COUNT, TURNS, "refused unbuilt first\n"),
     (SUM, "turn 64 1\n", "refused schedule 1\n"),
@@ -46,8 +46,9 @@ const REFUSALS: &[(&str, &str, &str)] = &[
         "turn 0 3\nupset 0 0 m.a 1\nturn 0 40\n",
         "refused unbuilt second\n",
     ),
-    // Where more than one holds, the text of the module comes first, then whether it is built, then the text of the
-    // schedule, then whether it has an upset.
+    // Where more than one holds, the text of the module comes first, then its check, then whether it is built, then the
+    // text of the schedule, then whether it has an upset.
+    ("", "turn 64 1\n", "refused module NoMain -\n"),
     (UNKNOWN_OPERATION, "turn 64 1\n", "refused text 3 fadd\n"),
     (
         UNKNOWN_OPERATION,
@@ -67,6 +68,34 @@ fn refusals_are_written_in_their_order(rt: HostRuntime) {
         assert!(rt; answer == Status::Refused, "not {text:?}");
         assert_eq!(rt; written.as_slice(), text.as_bytes());
     }
+}
+
+/// Modules, how a check of them ends, and what it writes.
+const CHECKS: &[(&str, Status, &str)] = &[
+    (SUM, Status::Done, "accepted 1 1 3\n"),
+    (COUNT, Status::Done, "accepted 2 6 33\n"),
+    (TWO_BLOCKS, Status::Done, "accepted 1 2 2\n"),
+    (UNKNOWN_OPERATION, Status::Refused, "refused text 3 fadd\n"),
+    (BAD_BYTE, Status::Refused, "refused text 4 byte 27\n"),
+    ("", Status::Refused, "refused module NoMain -\n"),
+    (
+        "define i32 @main() {\n  %r = add i32 1, %r\n  ret i32 0\n}\n",
+        Status::Refused,
+        "refused module UseBeforeDef main/0/0 %r\n",
+    ),
+];
+
+/// The second file of a check isn't read: here it has a form that no schedule has.
+#[test]
+fn checks_read_the_first_file_alone(rt: HostRuntime) {
+    for (first, answer, text) in CHECKS {
+        let (status, written) = check_on(&rt, rt.alloc(), first.as_bytes(), 0);
+        assert!(rt; status == *answer, "not {text:?}");
+        assert_eq!(rt; written.as_slice(), text.as_bytes());
+    }
+    let (status, written) = check_on(&rt, rt.alloc(), SUM.as_bytes(), 1);
+    assert!(rt; status == Status::ReadFault);
+    assert!(rt; written.is_empty());
 }
 
 #[test]
@@ -91,7 +120,7 @@ fn faulty_words_write_and_read_nothing(rt: HostRuntime) {
     let alloc = rt.alloc();
     let mut inputs = inputs_of(&rt, alloc, SUM.as_bytes(), TURNS.as_bytes(), 0);
     let mut out = sink_of(&rt, alloc, 0);
-    for line in ["", "run", "run a", "run a b c", "src a b", "walk a b"] {
+    for line in ["", "run", "run a", "run a b c", "check", "check a b", "src a b", "walk a b"] {
         let words = words_of(&rt, alloc, line);
         let answer = haft(alloc, &words, &mut inputs, &mut out);
         assert!(rt; answer == Status::Usage, "for {line:?}");

@@ -69,6 +69,15 @@ pub fn sink_of(rt: &impl Abort, alloc: Global, failing: u32) -> MemSink {
 }
 
 /// How the call `run a b` ends on these files, and what it writes, three bytes at a time, where this
+/// What a check of a file answers and writes, where the read with a number fails.
+pub fn check_on(rt: &impl Abort, alloc: Global, first: &[u8], read: u32) -> (Status, Vec<u8>) {
+    let words = words_of(rt, alloc, "check a");
+    let mut inputs = inputs_of(rt, alloc, first, b"turn 64 1", read);
+    let mut out = sink_of(rt, alloc, 0);
+    let status = haft(alloc, &words, &mut inputs, &mut out);
+    (status, bytes_of(rt, alloc, out.bytes()))
+}
+
 /// read and this write fail: they are numbered from 1.
 pub fn run_on(
     rt: &impl Abort,

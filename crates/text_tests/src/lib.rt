@@ -1,6 +1,15 @@
-//! Tests of whole texts: what they stand for, and the first line that fits no form.
+//! Tests of whole texts: what they stand for, and the first line that fits no form; what the checker and the layers below it
+//! tell of their modules. Tables of texts are constants; `cases.rt` says how those of the checker and its layers are written.
 #![tactic(auto)]
 
+#[cfg(test)]
+mod cases;
+#[cfg(test)]
+mod checked;
+#[cfg(test)]
+mod flows;
+#[cfg(test)]
+mod laid;
 #[cfg(test)]
 mod modules;
 #[cfg(test)]
