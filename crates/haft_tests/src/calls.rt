@@ -1,7 +1,7 @@
 //! What the top call answers and writes.
 use crate::texts::{
-    BAD_BYTE, COUNT, REPORT, SUM, TURNS, TWO_BLOCKS, UNENDED, UNKNOWN_OPERATION, bytes_of, check_on,
-    inputs_of, run_on, sink_of, words_of,
+    BAD_BYTE, COUNT, REPORT, SUM, TURNS, TWO_BLOCKS, UNENDED, UNKNOWN_OPERATION, bytes_of,
+    check_on, inputs_of, run_on, sink_of, words_of,
 };
 use haft_cli::{Status, haft};
 use haft_io::{CleanInputs, CleanSink};
@@ -120,7 +120,16 @@ fn faulty_words_write_and_read_nothing(rt: HostRuntime) {
     let alloc = rt.alloc();
     let mut inputs = inputs_of(&rt, alloc, SUM.as_bytes(), TURNS.as_bytes(), 0);
     let mut out = sink_of(&rt, alloc, 0);
-    for line in ["", "run", "run a", "run a b c", "check", "check a b", "src a b", "walk a b"] {
+    for line in [
+        "",
+        "run",
+        "run a",
+        "run a b c",
+        "check",
+        "check a b",
+        "src a b",
+        "walk a b",
+    ] {
         let words = words_of(&rt, alloc, line);
         let answer = haft(alloc, &words, &mut inputs, &mut out);
         assert!(rt; answer == Status::Usage, "for {line:?}");

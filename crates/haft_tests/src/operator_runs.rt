@@ -133,10 +133,7 @@ const FORMS: &[(&str, bool)] = &[
     ("%a = inttoptr i64 1 to ptr\nret i32 0", false),
     ("%a = add i32 1, 1\nret i32 %a", true),
     ("%a = alloca i64\nret i32 0", false),
-    (
-        "%a = getelementptr i64, ptr null, i64 1\nret i32 0",
-        false,
-    ),
+    ("%a = getelementptr i64, ptr null, i64 1\nret i32 0", false),
     ("unreachable", false),
     ("fence seq_cst\nret i32 0", false),
 ];
