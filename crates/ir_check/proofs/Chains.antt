@@ -1,10 +1,10 @@
 -- What is told of one row of the table and of those behind it.
-use Rattle.std.proofs.Common.{◌≡◌, ◌∙◌, ap, refl, sym, ℕ, List, Option, Some, None, subst}
+use Rattle.std.proofs.Common.{◌≡◌, ◌∙◌, ap, Option, Some, None, subst}
 use Rattle.std.specs.Option.{option_or}
 use Rattle.ir_core.specs.Module.{ModuleParts}
 use Rattle.ir_check.specs.declared.fault.CheckError.{CheckError}
 use Rattle.ir_check.specs.declared.fault.CheckError.TheVariants as errors
-use Rattle.ir_check.specs.Faults.{Fault, IsFault, OfLines, OfPhis, OfUses, IsFlowFault, OfPhi, OfUse, Tells, TellsFlow, Refuses, line_fault}
+use Rattle.ir_check.specs.Faults.{Fault, OfLines, OfPhis, OfUses, IsFlowFault, OfPhi, OfUse, Tells, TellsFlow, Refuses, line_fault}
 
 pub tells-first : (x y : Option Fault) (e : CheckError) → Tells x e → Tells (option_or x y) e
 tells-first x y (errors.Fault kind at name) t = ap (λ (o : Option Fault). option_or o y) t

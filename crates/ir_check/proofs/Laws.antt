@@ -1,9 +1,9 @@
 -- A module that is accepted has no fault.
-use Rattle.std.proofs.Common.{◌≡◌, ◌∙◌, ap, sym, ℕ, Bool, true, false, ◌||◌, ◌⊎◌, inl, inr, List, [], ◌∷◌, Option, Some, None, subst}
+use Rattle.std.proofs.Common.{◌≡◌, ◌∙◌, ap, sym, ℕ, Bool, true, false, ◌||◌, inl, inr, List, [], ◌∷◌, Option, Some, None}
 use Rattle.ir_core.specs.declared.types.Loc.{Loc}
 use Rattle.ir_core.specs.Module.{ModuleParts, FuncParts}
 use Rattle.ir_flow.specs.Paths.{IsAssigned, IsUnassigned, assigned_before, assigns_in, passes}
-use Rattle.ir_flow.specs.Phis.{PhiAt, Fits, phis_of, AllFitting, FirstMismatch}
+use Rattle.ir_flow.specs.Phis.{PhiAt, phis_of, AllFitting, FirstMismatch}
 use Rattle.ir_flow.specs.Uses.{AllAssigned, FirstUnassigned}
 use Rattle.ir_check.specs.Faults.{Fault, IsFault, OfLines, OfPhis, OfUses, IsAccepted, line_fault}
 

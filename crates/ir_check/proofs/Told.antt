@@ -1,9 +1,8 @@
 -- What is told of lines one behind another.
-use Rattle.std.proofs.Common.{◌≡◌, ◌∙◌, ap, refl, sym, ℕ, ◌+◌, ◌<◌, List, [], ◌∷◌, ◌++◌, drop, length, get_or, Option, Some, None}
+use Rattle.std.proofs.Common.{◌≡◌, ◌∙◌, ap, refl, ℕ, ◌+◌, ◌<◌, List, [], ◌∷◌, ◌++◌, drop, length, get_or, Option, Some, None}
 use Rattle.std.specs.Option.{option_or}
 use Rattle.ir_core.specs.Module.{FuncParts}
 use Rattle.ir_core.specs.declared.instruction.Block.{Block}
-use Rattle.ir_lines.specs.declared.site.Site.{Site}
 use Rattle.ir_lines.specs.Lines.{Line, block_lines, blocks_lines, func_lines, funcs_lines, told_at, first_told}
 use Rattle.ir_lines.proofs.Breaks.{drop_at}
 

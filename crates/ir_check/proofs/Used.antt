@@ -1,5 +1,5 @@
 -- One function more, of which phis and uses are looked at.
-use Rattle.std.proofs.Common.{◌≡◌, ◌∙◌, sym, ℕ, ◌+◌, ◌<◌, ◌≤◌, ◌⊎◌, inl, inr, length, List, Option, Some, None, subst, arith, refl, get_or}
+use Rattle.std.proofs.Common.{◌≡◌, ◌∙◌, sym, ℕ, ◌+◌, ◌<◌, ◌≤◌, inl, inr, length, List, Option, Some, None, subst, arith, refl, get_or}
 use Rattle.std.proofs.Math.Nat.{eq-or-lt_of_le}
 use Rattle.std.specs.Prelude.{slice_get}
 use Rattle.std.specs.Option.{option_or}
@@ -8,7 +8,7 @@ use Rattle.ir_core.specs.declared.types.Loc.{Loc}
 use Rattle.ir_core.specs.Module.{FuncParts}
 use Rattle.ir_flow.specs.Uses.{AllAssigned, FirstUnassigned}
 use Rattle.ir_check.specs.declared.flows.Unassigned.{Unassigned}
-use Rattle.ir_check.specs.Flows.{Before, OfAll, UnassignedUse, IsFirstUse}
+use Rattle.ir_check.specs.Flows.{Before, OfAll, IsFirstUse}
 
 some-injective : {A : Type 0} {x y : A} → Some x ≡ Some y → x ≡ y
 some-injective e = cc

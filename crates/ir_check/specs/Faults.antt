@@ -6,7 +6,7 @@
 use Rattle.std.specs.Prelude.{ℕ, ◌≡◌, Bool, List, Option, Some, None, if◌then◌else◌}
 use Rattle.std.specs.Option.{option_map, option_or}
 use Rattle.ir_core.specs.declared.types.Loc.{Loc}
-use Rattle.ir_core.specs.Module.{ModuleParts, FuncParts}
+use Rattle.ir_core.specs.Module.{ModuleParts}
 use Rattle.ir_flow.specs.Uses.{AllAssigned}
 use Rattle.ir_layout.specs.declared.limits.LimitKind.{LimitKind}
 use Rattle.ir_lines.specs.Lines.{Line, first_break, lines_of}

@@ -1,7 +1,7 @@
 -- Phis and uses over all functions of a module: whether all are right, and the first that isn't.
 use Rattle.std.specs.Prelude.{ℕ, ◌≡◌, ◌<◌, List, Option, Some, None, slice_get}
 use Rattle.ir_core.specs.declared.types.Loc.{Loc}
-use Rattle.ir_core.specs.Module.{ModuleParts, FuncParts}
+use Rattle.ir_core.specs.Module.{FuncParts}
 use Rattle.ir_flow.specs.Phis.{phis_of, AllFitting, FirstMismatch}
 use Rattle.ir_flow.specs.Uses.{AllAssigned, FirstUnassigned}
 use Rattle.ir_check.specs.declared.flows.Unassigned.{Unassigned}

@@ -76,13 +76,13 @@ fn begins_well(body: &[Inst]) -> bool
 /// The rule that phis stand first in a block, and its one terminator last.
 #[derive(Drop)]
 pub(crate) struct Terminators<'m> {
-    pub module: &'m Module,
+    pub m: &'m Module,
 }
 
 impl Rule for Terminators<'_> {
     ghost use Rattle.ir_check.specs.Blocks.{terminators_keep};
 
-    ghost module_of = { λ rule. rule.module.now };
+    ghost module_of = { λ rule. rule.m.now };
 
     ghost keeps = { λ rule line. terminators_keep line };
 
@@ -135,7 +135,7 @@ fn entered_functions(alloc: Global, m: &Module) -> Result<Vec<bool>, AllocError>
 /// The rule that no edge leads to the entry of a function. Contracts see its module.
 #[derive(Drop)]
 pub(crate) struct Entries<'m> {
-    module: &'m Module,
+    m: &'m Module,
     entered: Vec<bool>,
 }
 
@@ -151,18 +151,18 @@ impl<'m> Model for Entries<'m> {
 
     ghost coded = { Prim.hlevel (codes, ty.the_row.coded, init.the_row.coded) };
 
-    ghost view = { λ e. e.module.now };
+    ghost view = { λ e. e.m.now };
 
-    ghost invariant = { λ e. e.entered.items ≡ map enters e.module.now.funcs };
+    ghost invariant = { λ e. e.entered.items ≡ map enters e.m.now.funcs };
 }
 
 impl<'m> Entries<'m> {
     /// The rule for a module.
-    pub(crate) fn new(alloc: Global, module: &'m Module) -> Result<Entries<'m>, AllocError>
-        ensures { IfOk result (λ e. e ≡ module.now) }
+    pub(crate) fn new(alloc: Global, m: &'m Module) -> Result<Entries<'m>, AllocError>
+        ensures { IfOk result (λ e. e ≡ m.now) }
     {
-        let entered = entered_functions(alloc, module)?;
-        Ok(Entries { module, entered })
+        let entered = entered_functions(alloc, m)?;
+        Ok(Entries { m, entered })
     }
 }
 

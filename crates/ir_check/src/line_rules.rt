@@ -125,7 +125,7 @@ fn check_terminators(alloc: Global, m: &Module) -> Result<(), CheckError>
     ensures ok { OnOk result (rule_fault m.now kinds.BadTerminator terminators_keep ≡ None) }
     ensures fault { IfErr result (λ e. Tells (rule_fault m.now kinds.BadTerminator terminators_keep) e) }
 {
-    check_rule(alloc, m, Kind::BadTerminator, &Terminators { module: m })
+    check_rule(alloc, m, Kind::BadTerminator, &Terminators { m })
 }
 
 // Refuses a bad call.

@@ -99,13 +99,7 @@ fn push_name(text: &mut Vec<u8>, sigil: &[u8], name: &[u8]) -> Result<(), AllocE
 }
 
 // Adds a block and the number of an instruction.
-fn push_inst(
-    text: &mut Vec<u8>,
-    m: &Module,
-    n: usize,
-    b: usize,
-    i: usize,
-) -> Result<(), AllocError>
+fn push_inst(text: &mut Vec<u8>, m: &Module, n: usize, b: usize, i: usize) -> Result<(), AllocError>
     ensures { OnOk result (text.new.items ≡ text.old.items ++ block_text m.now n b ++ codes "/" ++ decimal i) }
 {
     push_block(text, m, n, b)?;

@@ -1,4 +1,3 @@
-use Rattle.std.proofs.Common.{◌≡◌}
 use Rattle.ir_check.proofs.Chains.{flow-refuses}
 use Rattle.ir_check.proofs.accepted.checked.Goals as goal
 

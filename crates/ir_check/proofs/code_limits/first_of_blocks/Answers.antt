@@ -1,4 +1,4 @@
-use Rattle.std.proofs.Common.{◌≡◌, ◌∙◌, sym, ◌+◌, drop}
+use Rattle.std.proofs.Common.{◌∙◌, sym, ◌+◌, drop}
 use Rattle.ir_lines.specs.Lines.{block_lines, blocks_lines, first_told}
 use Rattle.ir_lines.proofs.Breaks.{found-first, none-yet}
 use Rattle.ir_check.specs.CodeLimits.{limit_in}
@@ -12,8 +12,8 @@ returns-in-Some c =
     let f = c.args.f.now in
     let n = c.args.n in
     found-first (first_told told (blocks_lines n f 0 blocks)) (first_told told (block_lines n f c.loop-b.b c.index-blocks-b.result)) (first_told told (blocks_lines n f (c.loop-b.b + 1) (drop (c.loop-b.b + 1) blocks))) c.in-Some.first
-        (sym c.loop-b.invariant ∙ told-block told n f c.loop-b.b blocks c.index-blocks-b.result c.loop-b-test.true c.index-blocks-b.is)
-        (sym c.in-Some.ensures)
+    (sym c.loop-b.invariant ∙ told-block told n f c.loop-b.b blocks c.index-blocks-b.result c.loop-b-test.true c.index-blocks-b.is)
+    (sym c.in-Some.ensures)
 
 pub loop-b-preserved : goal.loop-b-preserved
 loop-b-preserved c =
@@ -22,5 +22,5 @@ loop-b-preserved c =
     let f = c.args.f.now in
     let n = c.args.n in
     none-yet (first_told told (blocks_lines n f 0 blocks)) (first_told told (block_lines n f c.loop-b.b c.index-blocks-b.result)) (first_told told (blocks_lines n f (c.loop-b.b + 1) (drop (c.loop-b.b + 1) blocks)))
-        (sym c.loop-b.invariant ∙ told-block told n f c.loop-b.b blocks c.index-blocks-b.result c.loop-b-test.true c.index-blocks-b.is)
-        (sym c.in_default.ensures)
+    (sym c.loop-b.invariant ∙ told-block told n f c.loop-b.b blocks c.index-blocks-b.result c.loop-b-test.true c.index-blocks-b.is)
+    (sym c.in_default.ensures)

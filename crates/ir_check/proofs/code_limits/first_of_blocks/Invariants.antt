@@ -1,5 +1,5 @@
-use Rattle.std.proofs.Common.{◌≡◌, map, drop}
-use Rattle.ir_lines.specs.Lines.{first_told, inst_lines, blocks_lines, funcs_lines, DeclareLine}
+use Rattle.std.proofs.Common.{◌≡◌, drop}
+use Rattle.ir_lines.specs.Lines.{first_told, blocks_lines}
 use Rattle.ir_check.specs.CodeLimits.{limit_in}
 use Rattle.ir_check.proofs.code_limits.first_of_blocks.Given as goal
 

@@ -1,4 +1,4 @@
-use Rattle.std.proofs.Common.{◌≡◌, ◌∙◌, ◌≤◌, ◌+◌, refl, sym, subst, length, List, Option, Some}
+use Rattle.std.proofs.Common.{◌∙◌, ◌≤◌, ◌+◌, refl, sym, subst, length, List, Option, Some}
 use Rattle.ir_core.specs.Module.{FuncParts}
 use Rattle.ir_flow.specs.Phis.{IsFlowFault}
 use Rattle.ir_flow.specs.declared.flow.FlowError.{FlowError}
@@ -22,7 +22,7 @@ returns-in-Err-PhiMismatch-clause-fault c =
     let stands = at-item c.funcs-f-items.result.now m.funcs n c.f-item.result c.funcs-f-items.ensures c.loop-n-test.true c.f-item.is in
     let unfit : UnfitPhi m.funcs n block inst = record { f = c.f-item.result; stands = stands; mismatch = subst (λ (e : FlowError). IsFlowFault c.f-item.result e) c.in-Err-PhiMismatch.field-0-is c.in-Err-PhiMismatch.ensures.fault; before = c.loop-n.invariant.phis } in
     let told : Tells (Some (fault_at m PhiMismatch (Inst n block inst))) c.fault_at.result =
-        subst (λ (site : Site). Tells (Some (fault_at m PhiMismatch site)) c.fault_at.result) c.site.ensures c.fault_at.ensures in
+    subst (λ (site : Site). Tells (Some (fault_at m PhiMismatch site)) c.fault_at.result) c.site.ensures c.fault_at.ensures in
     flow-told m (fault_at m PhiMismatch (Inst n block inst)) c.fault_at.result (OfPhi n block inst unfit refl) told
 
 pub loop-n-preserved : goal.loop-n-preserved
@@ -32,16 +32,16 @@ loop-n-preserved c =
     let f = c.f-item.result in
     let stands = at-item c.funcs-f-items.result.now funcs n f c.funcs-f-items.ensures c.loop-n-test.true c.f-item.is in
     elim c.match-flow_check.branch [
-        in-Ok w ↦ record {
-          phis = before-next PhisFit funcs n f stands w.in-Ok.ensures.phis c.loop-n.invariant.phis;
-          first = subst (λ (first : Option Unassigned). IsFirstUse funcs (n + 1) first) (sym w.first-is) (use-stays funcs n f c.loop-n.first stands w.in-Ok.ensures.uses c.loop-n.invariant.first);
-        }
+      | in-Ok w ↦ record {
+        phis = before-next PhisFit funcs n f stands w.in-Ok.ensures.phis c.loop-n.invariant.phis;
+        first = subst (λ (first : Option Unassigned). IsFirstUse funcs (n + 1) first) (sym w.first-is) (use-stays funcs n f c.loop-n.first stands w.in-Ok.ensures.uses c.loop-n.invariant.first);
+      }
       | in-Err-UseBeforeDef w ↦ record {
-          phis = before-next PhisFit funcs n f stands (subst (λ (e : FlowError). IsFlowFault f e) w.in-Err-UseBeforeDef.field-0-is w.in-Err-UseBeforeDef.ensures.fault).0 c.loop-n.invariant.phis;
-          first = subst (λ (first : Option Unassigned). IsFirstUse funcs (n + 1) first) (sym (w.first-is ∙ w.or-first.ensures))
+        phis = before-next PhisFit funcs n f stands (subst (λ (e : FlowError). IsFlowFault f e) w.in-Err-UseBeforeDef.field-0-is w.in-Err-UseBeforeDef.ensures.fault).0 c.loop-n.invariant.phis;
+        first = subst (λ (first : Option Unassigned). IsFirstUse funcs (n + 1) first) (sym (w.first-is ∙ w.or-first.ensures))
             (use-found funcs n f c.loop-n.first w.in-Err-UseBeforeDef.block w.in-Err-UseBeforeDef.inst w.in-Err-UseBeforeDef.reg stands
-                (subst (λ (e : FlowError). IsFlowFault f e) w.in-Err-UseBeforeDef.field-0-is w.in-Err-UseBeforeDef.ensures.fault).1 c.loop-n.invariant.first);
-        }
+            (subst (λ (e : FlowError). IsFlowFault f e) w.in-Err-UseBeforeDef.field-0-is w.in-Err-UseBeforeDef.ensures.fault).1 c.loop-n.invariant.first);
+      }
     ]
 
 pub refused-requires-clause-phis : goal.refused-requires-clause-phis

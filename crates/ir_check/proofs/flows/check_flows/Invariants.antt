@@ -1,4 +1,3 @@
-use Rattle.std.proofs.Common.{◌≡◌}
 use Rattle.ir_check.specs.Flows.{Before, PhisFit, IsFirstUse}
 use Rattle.ir_check.proofs.flows.check_flows.Given as goal
 

@@ -1,4 +1,4 @@
-use Rattle.std.proofs.Common.{◌≡◌, refl, subst, length, Option, Some}
+use Rattle.std.proofs.Common.{refl, subst, length, Option, Some}
 use Rattle.ir_lines.specs.declared.site.Site.{Site}
 use Rattle.ir_lines.specs.declared.site.Site.TheVariants.{Inst}
 use Rattle.ir_lines.specs.declared.site.Named.TheVariants as names
@@ -15,5 +15,5 @@ returns-in-Some-clause-fault c =
     let u = c.in-Some.u in
     let found : UnassignedUse m.funcs u.func u.block u.inst u.reg = subst (λ (first : Option Unassigned). IsFirstUse m.funcs (length m.funcs) first) c.in-Some.is c.requires.first in
     let told : Tells (Some (fault_with m UseBeforeDef (Inst u.func u.block u.inst, names.Loc u.func u.reg))) c.fault_with.result =
-        subst (λ (site : Site). Tells (Some (fault_with m UseBeforeDef (site, names.Loc u.func u.reg))) c.fault_with.result) c.site.ensures c.fault_with.ensures in
+    subst (λ (site : Site). Tells (Some (fault_with m UseBeforeDef (site, names.Loc u.func u.reg))) c.fault_with.result) c.site.ensures c.fault_with.ensures in
     flow-told m (fault_with m UseBeforeDef (Inst u.func u.block u.inst, names.Loc u.func u.reg)) c.fault_with.result (OfUse c.requires.phis u.func u.block u.inst u.reg found refl) told

@@ -1,4 +1,4 @@
-use Rattle.std.proofs.Common.{◌≡◌, subst, IfErr}
+use Rattle.std.proofs.Common.{subst, IfErr}
 use Rattle.ir_core.specs.Module.{ModuleParts}
 use Rattle.ir_calls.specs.Calls.{calls_keep}
 use Rattle.ir_check.specs.declared.fault.Kind.TheVariants.{BadCall}

@@ -1,4 +1,3 @@
-use Rattle.std.proofs.Common.{◌≡◌}
 use Rattle.ir_check.proofs.Rules.{rule-none, rule-told}
 use Rattle.ir_check.proofs.line_rules.check_rule.Goals as goal
 
