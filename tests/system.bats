@@ -61,7 +61,7 @@ sums() {
     }'
 }
 
-# short_sums COUNT writes a text of COUNT sums in short lines, for the most instructions in a file.
+# short_sums COUNT writes a text of COUNT sums in short lines.
 short_sums() {
     awk -v count="$1" 'BEGIN {
         digits = "0123456789"; letters = "ABCDEFGHIJKLMNOPQRSTUVWXYZabcdefghijklmnopqrstuvwxyz"; all = letters digits
@@ -82,7 +82,7 @@ constants() {
     printf 'ret i32 0\n}\n'
 }
 
-# Texts of many short parts that aren't built.
+# Texts of many short parts that aren't accepted.
 many_functions() { seq -f 'define i8@f%.0f(){
 }' 186000; }
 
@@ -161,29 +161,29 @@ many_bits() {
     answered_lines 1 "refused schedule 1"
 }
 
-@test "a text of 4 MiB with 127,000 sums runs to its end within 20 seconds" {
-    sums 127000 >first
+@test "a text of 4 MiB with 65,000 sums runs to its end within 20 seconds" {
+    sums 65000 >first
     [ "$(size_of first)" -eq $greatest_size ]
     # two turns for each sum, the check, the output, the return, the exit
-    echo "turn 0 $((2 * 127000 + 4))" >second
+    echo "turn 0 $((2 * 65000 + 4))" >second
     answer run first second
-    answered_lines 0 "out 127000" "aborts 0 0 0 0" "stop end 9" "src 0*127003"
+    answered_lines 0 "out 65000" "aborts 0 0 0 0" "stop end 9" "src 0*65003"
 }
 
 @test "one turn fewer than a text of 4 MiB needs stops before its exit" {
-    sums 127000 >first
-    echo "turn 0 $((2 * 127000 + 3))" >second
+    sums 65000 >first
+    echo "turn 0 $((2 * 65000 + 3))" >second
     answer run first second
-    answered_lines 0 "out 127000" "aborts 0 0 0 0" "stop bound" "src 0*127002"
+    answered_lines 0 "out 65000" "aborts 0 0 0 0" "stop bound" "src 0*65002"
 }
 
 @test "a text of 4 MiB with a fault in its last line is refused within 20 seconds" {
-    sums 127000 >whole
+    sums 65000 >whole
     head -c $((greatest_size - 2)) whole >first
     echo "turn 0 1" >second
     answer run first second
     # two lines before the sums, two behind them, and the one that is missing
-    answered_lines 1 "refused text $((2 + 127000 + 2 + 1)) end"
+    answered_lines 1 "refused text $((2 + 65000 + 2 + 1)) end"
 }
 
 @test "a text of nearly 4 MiB with 161,000 outputs writes them all within 20 seconds" {
@@ -196,10 +196,10 @@ many_bits() {
 }
 
 @test "4,194,304 turns over a text of 4 MiB end within 20 seconds" {
-    sums 127000 >first
+    sums 65000 >first
     echo "turn 0 4194304" >second
     answer run first second
-    answered_lines 0 "out 127000" "aborts 0 0 0 0" "stop end 9" "src 0*127003"
+    answered_lines 0 "out 65000" "aborts 0 0 0 0" "stop end 9" "src 0*65003"
 }
 
 @test "a schedule of 4 MiB with 466,033 lines runs within 20 seconds" {
@@ -212,12 +212,16 @@ many_bits() {
     answered 0 wanted_report
 }
 
-@test "a text of nearly 4 MiB with 246,000 sums runs to its end within 20 seconds" {
-    short_sums 246000 >first
-    [ "$(size_of first)" -le $greatest_size ]
-    echo "turn 0 $((2 * 246000 + 2))" >second
+@test "a function with as many names as it may have runs to its end within 20 seconds" {
+    # its entry has a name too
+    short_sums 65535 >first
+    echo "turn 0 $((2 * 65535 + 2))" >second
     answer run first second
-    answered_lines 0 "aborts 0 0 0 0" "stop end 0" "src 0*246002"
+    answered_lines 0 "aborts 0 0 0 0" "stop end 0" "src 0*65537"
+
+    short_sums 65536 >first
+    answer run first second
+    answered_lines 1 "refused module Limit.Registers @main"
 }
 
 # Memory takes no more than address space does; of this, 64 MiB are for the program itself.
@@ -225,13 +229,13 @@ many_bits() {
     memory=$((100 * greatest_size / 1024 + 64 * 1024))
     echo "turn 0 4194304" >second
 
-    sums 127000 >first
+    sums 65000 >first
     answer run first second
-    answered_lines 0 "out 127000" "aborts 0 0 0 0" "stop end 9" "src 0*127003"
+    answered_lines 0 "out 65000" "aborts 0 0 0 0" "stop end 9" "src 0*65003"
 
-    short_sums 246000 >first
+    short_sums 65535 >first
     answer run first second
-    answered_lines 0 "aborts 0 0 0 0" "stop end 0" "src 0*246002"
+    answered_lines 0 "aborts 0 0 0 0" "stop end 0" "src 0*65537"
 
     constants 161000 >first
     answer run first second
@@ -239,22 +243,27 @@ many_bits() {
     answered 0 wanted_report
 }
 
-@test "texts of 4 MiB that aren't built are refused within the same memory" {
+@test "texts of 4 MiB that aren't accepted are refused within the same memory" {
     memory=$((100 * greatest_size / 1024 + 64 * 1024))
     echo "turn 0 1" >second
     local parts
-    for parts in functions labels returns bits; do
+    while read -r parts line; do
         echo "$parts"
         "many_$parts" >first
         [ "$(size_of first)" -gt $((greatest_size - 60000)) ]
         [ "$(size_of first)" -le $greatest_size ]
         answer run first second
-        answered_lines 1 "refused unbuilt first"
-    done
+        answered_lines 1 "$line"
+    done <<'END'
+functions refused module BadTerminator f1/0
+labels refused module Limit.Registers @main
+returns refused module BadTerminator main/0
+bits refused module NoMain -
+END
 }
 
 @test "where memory is short the answer is status 5 with nothing written, and never a part of the report" {
-    sums 127000 >first
+    sums 65000 >first
     echo "turn 0 4194304" >second
     # the text alone has 4 MiB, and the program with its library 3
     memory=$((8 * 1024))
@@ -265,7 +274,7 @@ many_bits() {
         memory=$((mebibytes * 1024))
         answer run first second
         [ "$status" -eq 0 ] || answered_lines 5
-        [ "$status" -eq 5 ] || answered_lines 0 "out 127000" "aborts 0 0 0 0" "stop end 9" "src 0*127003"
+        [ "$status" -eq 5 ] || answered_lines 0 "out 65000" "aborts 0 0 0 0" "stop end 9" "src 0*65003"
     done
 }
 
