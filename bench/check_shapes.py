@@ -7,7 +7,8 @@ written; the counts below are multiplied by it.
   blocks     a function of 16,000 blocks with two edges and a phi each, and 48,000 names
   switch     a switch with 150,000 cases
   globals    29,000 globals, each with the addresses of others in its initialiser
-  init       a global with an initialiser of 186,000 parts, each with a part of its own
+  init       a global with an initialiser of 186,000 parts
+  structs    the same, where each part has a type and a part of its own
   registers  a block of 65,000 registers
   functions  functions as a compiler writes them, up to 4 MiB
 """
@@ -62,6 +63,14 @@ def globals_(scale):
 
 
 def init(scale):
+    count = scaled(186_000, scale)
+    yield f"@g = global [{count} x i32] ["
+    yield ", ".join(f"i32 {1_000_000_000 + 7 * k}" for k in range(count))
+    yield "]\ndefine i32 @main() {\n  ret i32 0\n}\n"
+
+
+def structs(scale):
+    """Parts with a type and a part of their own."""
     count = scaled(186_000, scale)
     yield f"@g = global [{count} x {{ i8 }}] ["
     yield ", ".join(f"{{ i8 }} {{ i8 {k % 256} }}" for k in range(count))
@@ -129,6 +138,7 @@ SHAPES = {
     "switch": switch,
     "globals": globals_,
     "init": init,
+    "structs": structs,
     "registers": registers,
     "functions": functions,
 }

@@ -109,6 +109,7 @@ blocks 1 16000 48000
 switch 1 18 19
 globals 1 1 2
 init 1 1 1
+structs 1 1 1
 registers 1 1 65001
 ROWS
     echo functions

@@ -1,4 +1,4 @@
-"""The tables of crates/haft_tests/src/operators.rt, worked out from the LLVM Language Reference.
+"""The tables of crates/reader_tests/src/operators.rt, worked out from the LLVM Language Reference.
 
 Each function below says what the reference says of an instruction, in Python's unbounded integers. Nothing
 here reads the crate or its definitions. `python3 tests/operators.py` writes the tables.

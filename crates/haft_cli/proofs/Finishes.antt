@@ -17,7 +17,7 @@ use Rattle.haft_run.specs.Turns.{run_on}
 use Rattle.haft_run.specs.Report.{report_of}
 use Rattle.haft_run.specs.Meaning.{IsGood, Means, Told}
 use Rattle.ir_check.specs.Faults.{IsFault}
-use Rattle.ir_check.proofs.Laws.{fault_excludes}
+use Rattle.ir_check.proofs.OneFault.{fault_excludes}
 use Rattle.haft_cli.specs.declared.command.Command.{Command}
 use Rattle.haft_cli.specs.declared.command.Command.TheVariants.{Check, Run}
 use Rattle.haft_cli.specs.declared.top.Status.{Status}

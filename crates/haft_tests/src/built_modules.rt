@@ -1,6 +1,6 @@
 //! Which accepted modules are built, and which schedules have no upset.
-use crate::runs::accepted_of;
-use haft_run::{built, upset_free};
+use crate::runs::is_built_text;
+use haft_run::upset_free;
 use sched_file::parse_schedule;
 
 /// Texts of accepted modules, and whether these are built.
@@ -45,8 +45,8 @@ const MODULES: &[(&str, bool)] = &[
 #[test]
 fn modules_of_one_block_are_built(rt: HostRuntime) {
     for (text, want) in MODULES {
-        let a = accepted_of(&rt, rt.alloc(), text);
-        assert!(rt; built(&a) == *want, "for {text:?}");
+        let told = is_built_text(&rt, rt.alloc(), text);
+        assert!(rt; told == *want, "for {text:?}");
     }
 }
 

@@ -1,10 +1,8 @@
 //! Runs of modules with operators, comparisons, selections and casts. Expected words are worked out from the LLVM
 //! Language Reference, expected turns from the images: two hardened instructions for each of these, a check for each
 //! register that is given out or returned.
-use crate::runs::{accepted_of, report_of};
+use crate::runs::{is_built_text, report_on};
 use crate::texts::SUM;
-use haft_run::built;
-use ir_check::Accepted;
 use std::alloc::Global;
 use std::process::Abort;
 
@@ -138,21 +136,20 @@ const FORMS: &[(&str, bool)] = &[
     ("fence seq_cst\nret i32 0", false),
 ];
 
-/// The accepted module of these lines, which may give numbers out.
-fn main_of(rt: &impl Abort, alloc: Global, lines: &str) -> Accepted {
+/// The text of a module of these lines, which may give numbers out.
+fn main_of(rt: &impl Abort, alloc: Global, lines: &str) -> String {
     let text = format!(in alloc;
         "declare void @haft_out(i64)\ndefine i32 @main() {{\n{lines}\n}}\n"
     );
-    let text = text.expect(rt, "no memory for a text");
-    accepted_of(rt, alloc, &text)
+    text.expect(rt, "no memory for a text")
 }
 
 #[test]
 fn operators_run_hardened(rt: HostRuntime) {
     let alloc = rt.alloc();
     for (lines, schedule, want) in RUNS {
-        let m = main_of(&rt, alloc, lines);
-        let found = report_of(&rt, alloc, &m, schedule);
+        let text = main_of(&rt, alloc, lines);
+        let found = report_on(&rt, alloc, &text, schedule);
         assert!(rt;
             found.as_slice() == want.as_bytes(),
             "of {lines:?} over {schedule:?}"
@@ -163,9 +160,8 @@ fn operators_run_hardened(rt: HostRuntime) {
 #[test]
 fn runs_go_by_the_events_of_schedules(rt: HostRuntime) {
     let alloc = rt.alloc();
-    let a = accepted_of(&rt, alloc, SUM);
     for (schedule, want) in SCHEDULES {
-        let found = report_of(&rt, alloc, &a, schedule);
+        let found = report_on(&rt, alloc, SUM, schedule);
         assert!(rt; found.as_slice() == want.as_bytes(), "over {schedule:?}");
     }
 }
@@ -174,7 +170,8 @@ fn runs_go_by_the_events_of_schedules(rt: HostRuntime) {
 fn blocks_are_built_by_their_form(rt: HostRuntime) {
     let alloc = rt.alloc();
     for (lines, want) in FORMS {
-        let m = main_of(&rt, alloc, lines);
-        assert!(rt; built(&m) == *want, "for {lines:?}");
+        let text = main_of(&rt, alloc, lines);
+        let told = is_built_text(&rt, alloc, &text);
+        assert!(rt; told == *want, "for {lines:?}");
     }
 }

@@ -1,5 +1,5 @@
 //! The calls below the top one, each by itself.
-use crate::runs::{accepted_of, result_of};
+use crate::runs::{module_of, result_on};
 use crate::texts::{REPORT, SUM, TURNS, inputs_of, sink_of};
 use haft_io::{Failed, ReadFail, Which, read_whole, write_whole};
 use haft_run::{Aborts, RunResult, Stop, report};
@@ -62,9 +62,10 @@ fn check_run(rt: &impl Abort, sum: &RunResult) {
 
 #[test]
 fn a_text_is_read_run_and_reported(rt: HostRuntime) {
-    let a = accepted_of(&rt, rt.alloc(), SUM);
-    check_sum(&rt, a.module());
-    let result = result_of(&rt, rt.alloc(), &a, TURNS);
+    let m = module_of(&rt, rt.alloc(), SUM);
+    check_sum(&rt, &m);
+    drop(m);
+    let result = result_on(&rt, rt.alloc(), SUM, TURNS);
     check_run(&rt, &result);
     let text = report(rt.alloc(), &result).expect(&rt, "no memory for a report");
     assert!(rt; text.as_slice() == REPORT.as_bytes());

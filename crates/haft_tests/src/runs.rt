@@ -24,7 +24,7 @@ pub fn module_of(rt: &impl Abort, alloc: Global, text: &str) -> Module {
 }
 
 /// The accepted module of a text that has one.
-pub fn accepted_of(rt: &impl Abort, alloc: Global, text: &str) -> Accepted {
+fn accepted_of(rt: &impl Abort, alloc: Global, text: &str) -> Accepted {
     match accept(alloc, module_of(rt, alloc, text)) {
         Ok(accepted) => accepted,
         Err(error) => {
@@ -42,7 +42,7 @@ fn is_built(a: &Accepted) -> bool
 }
 
 /// What a module that is built comes to over a schedule without upsets.
-pub fn result_of(rt: &impl Abort, alloc: Global, a: &Accepted, schedule: &str) -> RunResult {
+fn result_of(rt: &impl Abort, alloc: Global, a: &Accepted, schedule: &str) -> RunResult {
     assert!(rt; schedule.len() <= 4_194_304);
     let schedule = parse_schedule(alloc, schedule.as_bytes()).expect(rt, "a schedule is unfit");
     assert!(rt; is_built(a));
@@ -50,8 +50,24 @@ pub fn result_of(rt: &impl Abort, alloc: Global, a: &Accepted, schedule: &str) -
     run(alloc, a, &schedule).expect(rt, "no memory to run")
 }
 
+/// What the accepted module of a text comes to over a schedule.
+pub fn result_on(rt: &impl Abort, alloc: Global, text: &str, schedule: &str) -> RunResult {
+    let a = accepted_of(rt, alloc, text);
+    let result = result_of(rt, alloc, &a, schedule);
+    drop(a);
+    result
+}
+
 /// The report of that run.
-pub fn report_of(rt: &impl Abort, alloc: Global, a: &Accepted, schedule: &str) -> Vec<u8> {
-    let result = result_of(rt, alloc, a, schedule);
+pub fn report_on(rt: &impl Abort, alloc: Global, text: &str, schedule: &str) -> Vec<u8> {
+    let result = result_on(rt, alloc, text, schedule);
     report(alloc, &result).expect(rt, "no memory for a report")
+}
+
+/// Whether the accepted module of a text is built.
+pub fn is_built_text(rt: &impl Abort, alloc: Global, text: &str) -> bool {
+    let a = accepted_of(rt, alloc, text);
+    let told = built(&a);
+    drop(a);
+    told
 }

@@ -2,4 +2,4 @@ pub mod Told
 pub mod Rules
 pub mod Chains
 pub mod Used
-pub mod Laws
+pub mod OneFault

@@ -12,8 +12,10 @@ mod code_limits;
 mod fault;
 mod flows;
 mod functions;
+mod laws;
 mod line_rules;
 mod places;
 
 pub use accepted::{Accepted, accept};
 pub use fault::{CheckError, Kind};
+pub use laws::one_fault_or_none;

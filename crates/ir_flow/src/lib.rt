@@ -6,6 +6,7 @@
 #![tactic(auto)]
 
 mod assigned;
+mod climb;
 mod control;
 mod edge_list;
 mod flow;

@@ -6,6 +6,7 @@
 //! of its globals. The checker and memory stand on it.
 #![tactic(auto)]
 
+mod kept_places;
 mod limits;
 mod memory;
 mod named_types;
@@ -16,6 +17,7 @@ mod spans;
 mod type_table;
 mod written_types;
 
+pub use kept_places::GlobalPlaces;
 pub use limits::{LayoutError, LimitKind};
 pub use memory::Layout;
 pub use placing::layout;

@@ -1,17 +1,20 @@
 //! What a layout answers.
-ghost use Rattle.std.specs.Prelude.{◌≡◌, None};
-ghost use Rattle.ir_layout.specs.Shapes.{size_of};
+ghost use Rattle.std.specs.Prelude.{◌≡◌, None, IfOk};
+ghost use Rattle.ir_layout.specs.Shapes.{size_of, known_shape, field_start};
+ghost use Rattle.ir_layout.specs.KeptShapes.{word};
 ghost use Rattle.std.specs.Option.{option_map, option_copied};
 ghost use Rattle.ir_layout.specs.Offsets.{entered, fields, offset_of};
 ghost use Rattle.ir_layout.specs.Memory.{address_of, is_valid, AreAddresses, AreApart};
 ghost use Rattle.ir_layout.specs.Limits.{limit_of, limit_among};
 ghost use Rattle.ir_layout.specs.WrittenTypes.{types_in_declare, types_in_head, types_in_inst};
 
+use crate::kept_places::GlobalPlaces;
 use crate::limits::{self, LimitKind};
 use crate::offsets;
 use crate::spans::{self, Span};
 use crate::type_table::TypeTable;
 use ir_core::{Declare, Func, Inst, Sym, Ty, Width};
+use std::alloc::{AllocError, Global};
 use std::collections::HashMap;
 use std::marker::Model;
 
@@ -85,6 +88,20 @@ impl Layout {
         ensures { result ≡ size_of self.now.types ty.now }
     {
         self.types.known_shape(ty).size
+    }
+
+    /// Where a field stands behind so many bytes, modulo 2^64.
+    pub fn field_start(&self, taken: u64, field: &Ty) -> u64
+        ensures { result ≡ word (field_start taken (known_shape self.now.types field.now).align) }
+    {
+        self.types.known_shape(field).align.round_up(taken)
+    }
+
+    /// The places of the globals, in memory of their own.
+    pub fn global_places(&self, alloc: Global) -> Result<GlobalPlaces, AllocError>
+        ensures { IfOk result (λ places. places ≡ self.now.globals) }
+    {
+        GlobalPlaces::copy_of(alloc, self.globals.as_slice())
     }
 
     /// The address of a global, or `None` exactly for a name that is no global.

@@ -1,0 +1,5 @@
+pub mod Inside
+pub mod Laws
+pub mod Lengths
+pub mod Placed
+mod Records

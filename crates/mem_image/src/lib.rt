@@ -1,0 +1,15 @@
+//! The memory of a program: bytes by address, as a program's machines read and write them.
+//!
+//! Definitions: the bytes of an access (`specs/Accesses.antt`); memory, what an access reads and what it leaves
+//! (`Bytes.antt`); the memory that a run begins with (`Opening.antt`). Contracts see an `Image` as the places of the globals
+//! and the bytes of three areas. Which accesses are valid is told by `ir_layout`. What machines need to know of reads behind
+//! writes stands in `proofs/Laws.antt`.
+#![tactic(auto)]
+
+mod areas;
+mod images;
+mod opening;
+mod sizes;
+
+pub use images::Image;
+pub use sizes::{Size, overlap};
