@@ -12,4 +12,5 @@ mod opening;
 mod sizes;
 
 pub use images::Image;
+pub use opening::{address_in, inner_address, size_in};
 pub use sizes::{Size, overlap};

@@ -26,8 +26,8 @@ pub(crate) fn fit(bytes: &mut Vec<u8>, count: u64) -> Result<(), AllocError>
     Ok(())
 }
 
-// How many bytes a type takes, and 0 where it breaks a limit.
-fn size_in(l: &Layout, ty: &Ty) -> u64
+/// How many bytes a type takes, and 0 where it breaks a limit.
+pub fn size_in(l: &Layout, ty: &Ty) -> u64
     ensures { result ≡ size_in l.now ty.now }
 {
     match l.limit(ty) {
@@ -36,15 +36,15 @@ fn size_in(l: &Layout, ty: &Ty) -> u64
     }
 }
 
-// The address of a global, and 0 for a name that is none.
-fn address_in(l: &Layout, sym: Sym) -> u64
+/// The address of a global, and 0 for a name that is none.
+pub fn address_in(l: &Layout, sym: Sym) -> u64
     ensures { result ≡ address_in l.now sym }
 {
     l.address(sym).unwrap_or(0)
 }
 
-// The address of a constant `getelementptr`.
-fn inner_address(l: &Layout, gep: &ConstGep) -> u64
+/// The address of a constant `getelementptr`.
+pub fn inner_address(l: &Layout, gep: &ConstGep) -> u64
     ensures { result ≡ inner_address l.now gep.now }
 {
     let offset = l.offset(&gep.base, gep.index.items()).unwrap_or(0);

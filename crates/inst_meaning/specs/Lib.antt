@@ -1,0 +1,5 @@
+pub mod Accesses
+pub mod Action
+pub mod Operands
+pub mod Phis
+pub mod World
