@@ -49,7 +49,8 @@ impl Area {
 /// The word that stands in the bytes from a place on.
 pub(crate) fn word_at(area: &[u8], at: usize, size: Size) -> u64
     requires { at + bytes size ≤ length area.now }
-    ensures { result ≡ word_at area.now at (bytes size) }
+    ensures word { result ≡ word_at area.now at (bytes size) }
+    ensures below { result < 2 ^ (8 * bytes size) }
 {
     LittleEndian::read_uint(&area[at..], size.bytes() as usize)
 }

@@ -94,7 +94,8 @@ impl Image {
 
     /// The word of an access, its lowest byte first, or `None` exactly where the access isn't valid.
     pub fn read(&self, addr: u64, size: Size) -> Option<u64>
-        ensures { result ≡ read_of self.now addr (bytes size) }
+        ensures word { result ≡ read_of self.now addr (bytes size) }
+        ensures below { IfSome result (λ word. word < 2 ^ (8 * bytes size)) }
     {
         let (area, at) = self.place(addr, size)?;
         Some(word_at(self.area(area), at, size))

@@ -2,7 +2,7 @@
 //!
 //! Definitions: the bytes of an access (`specs/Accesses.antt`); memory, what an access reads and what it leaves
 //! (`Bytes.antt`); the memory that a run begins with (`Opening.antt`). Contracts see an `Image` as the places of the globals
-//! and the bytes of three areas. Which accesses are valid is told by `ir_layout`. What machines need to know of reads behind
+//! and the bytes of three areas. Which accesses are valid is told by `ir_layout`. What machines need to know of reads and
 //! writes stands in `proofs/Laws.antt`.
 #![tactic(auto)]
 
