@@ -96,7 +96,7 @@ impl Action {
 impl Operands<'_> {
     /// The access to memory that an instruction would make, where so many threads were made. It takes no memory.
     pub fn access(&self, made: usize, inst: &Inst) -> Option<Access>
-        ensures { result ≡ access_of made (action_of self.layout.now self.callees.now self.registers.now inst.now) }
+        ensures { result ≡ access_of made (action_of self.now.layout.now self.now.callees.now self.now.registers.now inst.now) }
     {
         let action = match inst {
             Inst::Load {

@@ -86,7 +86,7 @@ pub fn destination(inst: &Inst) -> Option<Loc>
 impl Operands<'_> {
     // An operator.
     fn operate(&self, op: BinOp, flags: Flags, w: Width, a: &Val, b: &Val) -> Action
-        ensures { result ≡ operation self.layout.now self.registers.now op flags w a.now b.now }
+        ensures { result ≡ operation self.now.layout.now self.now.registers.now op flags w a.now b.now }
     {
         let (Some(a), Some(b)) = (self.word_at(w, a), self.word_at(w, b)) else {
             return Action::Fault(Cause::Unreachable);
@@ -100,7 +100,7 @@ impl Operands<'_> {
 
     // An `icmp`.
     fn compare(&self, pred: Pred, ty: &Ty, a: &Val, b: &Val) -> Action
-        ensures { result ≡ comparison self.layout.now self.registers.now pred ty.now a.now b.now }
+        ensures { result ≡ comparison self.now.layout.now self.now.registers.now pred ty.now a.now b.now }
     {
         let Some(w) = width_of(ty) else {
             return Action::Fault(Cause::Unreachable);
@@ -113,7 +113,7 @@ impl Operands<'_> {
 
     // A `select`.
     fn select(&self, condition: &Val, ty: &Ty, a: &Val, b: &Val) -> Action
-        ensures { result ≡ selection self.layout.now self.registers.now condition.now ty.now a.now b.now }
+        ensures { result ≡ selection self.now.layout.now self.now.registers.now condition.now ty.now a.now b.now }
     {
         let condition = self.word_at(Width::W1, condition);
         match (condition, self.typed_word(ty, a), self.typed_word(ty, b)) {
@@ -126,7 +126,7 @@ impl Operands<'_> {
 
     // A cast.
     fn convert(&self, op: CastOp, from: &Ty, a: &Val, to: &Ty) -> Action
-        ensures { result ≡ conversion self.layout.now self.registers.now op from.now a.now to.now }
+        ensures { result ≡ conversion self.now.layout.now self.now.registers.now op from.now a.now to.now }
     {
         let (Some(from), Some(to)) = (width_of(from), width_of(to)) else {
             return Action::Fault(Cause::Unreachable);
@@ -148,7 +148,7 @@ impl Operands<'_> {
         ptr: &Val,
         index: &[(Width, Val)],
     ) -> Result<Action, AllocError>
-        ensures { IfOk result (λ action. action ≡ element self.layout.now self.registers.now base.now ptr.now index.now) }
+        ensures { IfOk result (λ action. action ≡ element self.now.layout.now self.now.registers.now base.now ptr.now index.now) }
     {
         let Some(address) = self.pointer(ptr) else {
             return Ok(Action::Fault(Cause::Unreachable));
@@ -164,7 +164,7 @@ impl Operands<'_> {
 
     // A `load`.
     pub(crate) fn load(&self, ty: &Ty, ptr: &Val, atomic: bool) -> Action
-        ensures { result ≡ loading self.layout.now self.registers.now ty.now ptr.now atomic }
+        ensures { result ≡ loading self.now.layout.now self.now.registers.now ty.now ptr.now atomic }
     {
         match (width_of(ty), self.pointer(ptr)) {
             (Some(w), Some(address)) => Action::Read {
@@ -177,7 +177,7 @@ impl Operands<'_> {
 
     // A `store`.
     pub(crate) fn store(&self, ty: &Ty, val: &Val, ptr: &Val, atomic: bool) -> Action
-        ensures { result ≡ storing self.layout.now self.registers.now ty.now val.now ptr.now atomic }
+        ensures { result ≡ storing self.now.layout.now self.now.registers.now ty.now val.now ptr.now atomic }
     {
         let Some(w) = width_of(ty) else {
             return Action::Fault(Cause::Unreachable);
@@ -194,7 +194,7 @@ impl Operands<'_> {
 
     // An `atomicrmw`.
     pub(crate) fn combine(&self, op: RmwOp, ptr: &Val, ty: &Ty, val: &Val) -> Action
-        ensures { result ≡ combining self.layout.now self.registers.now op ptr.now ty.now val.now }
+        ensures { result ≡ combining self.now.layout.now self.now.registers.now op ptr.now ty.now val.now }
     {
         let Some(width) = width_of(ty) else {
             return Action::Fault(Cause::Unreachable);
@@ -214,7 +214,7 @@ impl Operands<'_> {
 
     // A `cmpxchg`.
     pub(crate) fn exchange(&self, ptr: &Val, ty: &Ty, old: &Val, new: &Val) -> Action
-        ensures { result ≡ exchanging self.layout.now self.registers.now ptr.now ty.now old.now new.now }
+        ensures { result ≡ exchanging self.now.layout.now self.now.registers.now ptr.now ty.now old.now new.now }
     {
         let Some(width) = width_of(ty) else {
             return Action::Fault(Cause::Unreachable);
@@ -235,7 +235,7 @@ impl Operands<'_> {
 
     // An `extractvalue`.
     fn extract(&self, elem: &Ty, pair: Loc, index: u8) -> Action
-        ensures { result ≡ extraction self.registers.now elem.now pair index }
+        ensures { result ≡ extraction self.now.registers.now elem.now pair index }
     {
         let (Some(w), Some(word)) = (width_of(elem), self.registers.get(pair)) else {
             return Action::Fault(Cause::Unreachable);
@@ -249,7 +249,7 @@ impl Operands<'_> {
 
     // A `br` with a condition.
     fn branch(&self, condition: &Val, on_true: Loc, on_false: Loc) -> Action
-        ensures { result ≡ branching self.layout.now self.registers.now condition.now on_true on_false }
+        ensures { result ≡ branching self.now.layout.now self.now.registers.now condition.now on_true on_false }
     {
         match self.word_at(Width::W1, condition) {
             Some(condition) => Action::Jump(if condition == 1 { on_true } else { on_false }),
@@ -259,7 +259,7 @@ impl Operands<'_> {
 
     // A `switch`.
     fn switch(&self, ty: &Ty, on: &Val, default: Loc, cases: &[(u64, Loc)]) -> Action
-        ensures { result ≡ switching self.layout.now self.registers.now ty.now on.now default cases.now }
+        ensures { result ≡ switching self.now.layout.now self.now.registers.now ty.now on.now default cases.now }
     {
         match self.typed_word(ty, on) {
             Some(n) => Action::Jump(case_of(n, cases, default)),
@@ -269,7 +269,7 @@ impl Operands<'_> {
 
     // A `ret`.
     fn give_back(&self, ty: &Ty, value: &Option<Val>) -> Action
-        ensures { result ≡ returning self.layout.now self.registers.now ty.now value.now }
+        ensures { result ≡ returning self.now.layout.now self.now.registers.now ty.now value.now }
     {
         let Some(value) = value else {
             return Action::Return(0);
@@ -282,7 +282,7 @@ impl Operands<'_> {
 
     // The function that a value names.
     fn named_function(&self, value: &Val) -> Option<u32>
-        ensures { result ≡ named_function self.callees.now value.now }
+        ensures { result ≡ named_function self.now.callees.now value.now }
     {
         let Val::Global(sym) = value else {
             return None;
@@ -295,7 +295,7 @@ impl Operands<'_> {
 
     // A call of `pthread_create`.
     fn create(&self, arguments: &[(Ty, Val)]) -> Action
-        ensures { result ≡ creating self.layout.now self.callees.now self.registers.now arguments.now }
+        ensures { result ≡ creating self.now.layout.now self.now.callees.now self.now.registers.now arguments.now }
     {
         let [(to_ty, to), _, (_, start), (ty, argument)] = arguments else {
             return Action::Fault(Cause::Unreachable);
@@ -313,7 +313,7 @@ impl Operands<'_> {
 
     // A call of an external.
     pub(crate) fn ask(&self, external: External, arguments: &[(Ty, Val)]) -> Action
-        ensures { result ≡ outside self.layout.now self.callees.now self.registers.now external arguments.now }
+        ensures { result ≡ outside self.now.layout.now self.now.callees.now self.now.registers.now external arguments.now }
     {
         if let External::PthreadCreate = external {
             return self.create(arguments);
@@ -329,7 +329,7 @@ impl Operands<'_> {
 
     /// What a name stands for where it is called.
     pub(crate) fn callee(&self, sym: Sym) -> Callee
-        ensures { result ≡ slice_index_or self.callees.now sym.0 Unknown }
+        ensures { result ≡ slice_index_or self.now.callees.now sym.0 Unknown }
     {
         match self.callees.get(sym.0 as usize) {
             Some(callee) => *callee,
@@ -344,7 +344,7 @@ impl Operands<'_> {
         callee: Callee,
         arguments: &[(Ty, Val)],
     ) -> Result<Action, AllocError>
-        ensures { IfOk result (λ action. action ≡ calling self.layout.now self.callees.now self.registers.now callee arguments.now) }
+        ensures { IfOk result (λ action. action ≡ calling self.now.layout.now self.now.callees.now self.now.registers.now callee arguments.now) }
     {
         match callee {
             Callee::Defined(function) => match self.argument_words(alloc, arguments)? {
@@ -358,7 +358,7 @@ impl Operands<'_> {
 
     /// What an instruction asks for.
     pub fn action(&self, alloc: Global, inst: &Inst) -> Result<Action, AllocError>
-        ensures { IfOk result (λ action. action ≡ action_of self.layout.now self.callees.now self.registers.now inst.now) }
+        ensures { IfOk result (λ action. action ≡ action_of self.now.layout.now self.now.callees.now self.now.registers.now inst.now) }
     {
         match inst {
             Inst::Bin { op, flags, w, a, b, .. } => Ok(self.operate(*op, *flags, *w, a, b)),

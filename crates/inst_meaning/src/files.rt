@@ -1,5 +1,5 @@
 //! Register files.
-ghost use Rattle.std.specs.Prelude.{◌≡◌, OnOk, OnErr, [], map};
+ghost use Rattle.std.specs.Prelude.{◌≡◌, IfOk, OnOk, OnErr, []};
 ghost use Rattle.ir_action.specs.Registers.{get};
 ghost use Rattle.inst_meaning.specs.Phis.{assigned, all_assigned};
 

@@ -1,5 +1,5 @@
 //! The words that operands stand for.
-ghost use Rattle.std.specs.Prelude.{◌≡◌, ◌<◌, ◌^◌, Some, None, IfOk, IfSome};
+ghost use Rattle.std.specs.Prelude.{◌≡◌, ◌<◌, ◌%◌, ◌^◌, Some, None, IfOk, IfSome};
 ghost use Rattle.op_table.specs.Operators.{bits};
 ghost use Rattle.mem_image.specs.Accesses.{bytes};
 ghost use Rattle.inst_meaning.specs.Operands.{width_of, size_of_width, word_of, word_at, typed_word, pointer_word, argument_words, index_words};
@@ -53,7 +53,7 @@ pub(crate) fn low(w: Width, word: u128) -> u64
 impl Operands<'_> {
     // The word that a value stands for.
     fn word(&self, value: &Val) -> Option<u128>
-        ensures { result ≡ word_of self.layout.now self.registers.now value.now }
+        ensures { result ≡ word_of self.now.layout.now self.now.registers.now value.now }
     {
         match value {
             Val::Reg(at) => self.registers.get(*at),
@@ -66,7 +66,7 @@ impl Operands<'_> {
 
     /// The word of this width that a value stands for.
     pub(crate) fn word_at(&self, w: Width, value: &Val) -> Option<u64>
-        ensures value { result ≡ word_at self.layout.now self.registers.now w value.now }
+        ensures value { result ≡ word_at self.now.layout.now self.now.registers.now w value.now }
         ensures below { IfSome result (λ word. word < 2 ^ bits w) }
     {
         match self.word(value) {
@@ -77,7 +77,7 @@ impl Operands<'_> {
 
     /// A value as a word of its type.
     pub(crate) fn typed_word(&self, ty: &Ty, value: &Val) -> Option<u64>
-        ensures { result ≡ typed_word self.layout.now self.registers.now ty.now value.now }
+        ensures { result ≡ typed_word self.now.layout.now self.now.registers.now ty.now value.now }
     {
         let w = width_of(ty)?;
         self.word_at(w, value)
@@ -85,7 +85,7 @@ impl Operands<'_> {
 
     /// An address.
     pub(crate) fn pointer(&self, value: &Val) -> Option<u64>
-        ensures { result ≡ pointer_word self.layout.now self.registers.now value.now }
+        ensures { result ≡ pointer_word self.now.layout.now self.now.registers.now value.now }
     {
         self.word_at(Width::W64, value)
     }
@@ -96,7 +96,7 @@ impl Operands<'_> {
         alloc: Global,
         arguments: &[(Ty, Val)],
     ) -> Result<Option<Seq<u64>>, AllocError>
-        ensures { IfOk result (λ words. words ≡ argument_words self.layout.now self.registers.now arguments.now) }
+        ensures { IfOk result (λ words. words ≡ argument_words self.now.layout.now self.now.registers.now arguments.now) }
     {
         let mut words = Vec::with_capacity(alloc, arguments.len())?;
         for (ty, value) in arguments {
@@ -114,8 +114,8 @@ impl Operands<'_> {
         alloc: Global,
         indices: &[(Width, Val)],
     ) -> Result<Option<Vec<(Width, u64)>>, AllocError>
-        ensures some { IfOk result (λ words. IfSome words (λ found. Some found.items ≡ index_words self.layout.now self.registers.now indices.now)) }
-        ensures none { IfOk result (λ words. words ≡ None → index_words self.layout.now self.registers.now indices.now ≡ None) }
+        ensures some { IfOk result (λ words. IfSome words (λ found. Some found.items ≡ index_words self.now.layout.now self.now.registers.now indices.now)) }
+        ensures none { IfOk result (λ words. words ≡ None → index_words self.now.layout.now self.now.registers.now indices.now ≡ None) }
     {
         let mut words = Vec::with_capacity(alloc, indices.len())?;
         for (w, value) in indices {

@@ -1,6 +1,6 @@
 //! What phis take (LLVM Language Reference, 'phi Instruction').
-ghost use Rattle.std.specs.Prelude.{◌≡◌, ◌≤◌, length, Some, None, IfOk, OnOk};
-ghost use Rattle.std.specs.Option.{option_copied};
+ghost use Rattle.std.specs.Prelude.{◌≡◌, ◌≤◌, length, Some, true, IfOk};
+ghost use Rattle.std.specs.Option.{is_some, option_copied};
 ghost use Rattle.inst_meaning.specs.Phis.{is_phi, phi_count, arm_from, phi_word, phi_words};
 
 use crate::Operands;
@@ -37,7 +37,7 @@ fn arm_from(label: Loc, arms: &[(Val, Loc)]) -> Option<&Val>
 impl Operands<'_> {
     // The register that a phi assigns, and the word that it takes from a label.
     fn phi_word(&self, label: Loc, phi: &Inst) -> Option<(Loc, u64)>
-        ensures { result ≡ phi_word self.layout.now self.registers.now label phi.now }
+        ensures { result ≡ phi_word self.now.layout.now self.now.registers.now label phi.now }
     {
         let Inst::Phi { dst, ty, arms } = phi else {
             return None;
@@ -55,8 +55,8 @@ impl Operands<'_> {
         phis: &[Inst],
         words: &mut Vec<(Loc, u64)>,
     ) -> Result<bool, AllocError>
-        ensures all { IfOk result (λ all. all ≡ is_some (phi_words self.layout.now self.registers.now label phis.now)) }
-        ensures words { IfOk result (λ all. all ≡ true → Some words.new.items ≡ phi_words self.layout.now self.registers.now label phis.now) }
+        ensures all { IfOk result (λ all. all ≡ is_some (phi_words self.now.layout.now self.now.registers.now label phis.now)) }
+        ensures words { IfOk result (λ all. all ≡ true → Some words.new.items ≡ phi_words self.now.layout.now self.now.registers.now label phis.now) }
     {
         words.clear();
         for phi in phis {

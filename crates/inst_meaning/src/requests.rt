@@ -1,6 +1,9 @@
 //! The world, and what externals ask of it.
-ghost use Rattle.std.specs.Prelude.{◌≡◌, IfOk, OnOk, OnErr, nat_le, ◌+◌};
-ghost use Rattle.inst_meaning.specs.World.{opening_world, owner_of, locked, holds, unlocked, given_out, heap_next, allocated, asked_of, given_to};
+ghost use Rattle.std.specs.Prelude.{◌≡◌, IfOk, OnOk, OnErr, slice_index_or};
+ghost use Rattle.inst_meaning.specs.declared.actions.Reply.TheVariants.{Answers};
+ghost use Rattle.inst_meaning.specs.declared.actions.Request.TheVariants.{Lock, Unlock, Allocate};
+ghost use Rattle.inst_meaning.specs.Phis.{assigned};
+ghost use Rattle.inst_meaning.specs.World.{opening_world, given_out, heap_next, asked_of, given_to};
 
 use crate::{Cause, Registers, Reply, Request};
 use ir_core::{Loc, Out, Outs, Seq, Tid};
