@@ -4,7 +4,8 @@
 -- Choices: an update is one read and one write, and counts as a write, also where the word stays. The result of an exchange on
 -- words of w bits is the old word, and 2^w more where the word became the desired one. A new thread's number is stored as a
 -- plain word where there is room for a thread.
-use Rattle.std.specs.Prelude.{ℕ, ◌+◌, ◌^◌, ◌<◌, ◌==◌, ◌&&◌, ◌||◌, not, nat_lt, Bool, true, false, Option, Some, None, if◌then◌else◌}
+use Rattle.std.specs.Prelude.{ℕ, ◌≡◌, ◌+◌, ◌*◌, ◌^◌, ◌<◌, ◌==◌, ◌&&◌, ◌||◌, not, nat_lt, Bool, true, false, Option, Some, None, if◌then◌else◌}
+use Rattle.ir_core.specs.declared.types.Width.{Width}
 use Rattle.op_table.specs.Operators.{bits, updated as combined}
 use Rattle.ir_layout.specs.Memory.{thread_limit}
 use Rattle.mem_image.specs.declared.sizes.Size.TheVariants.{S8}
@@ -33,6 +34,19 @@ found (Exchange w expected desired) old = if old == expected then old + 2 ^ bits
 abbrev pub Fits : Updates → ℕ → Type 0
 Fits (Combine op w argument) old = (old < 2 ^ bits w) × (argument < 2 ^ bits w)
 Fits (Exchange w expected desired) old = (old < 2 ^ bits w) × (desired < 2 ^ bits w)
+
+-- the words of an action that writes have as many bits as its place
+abbrev pub IsAt : Place → Width → Type 0
+IsAt place w = bits w ≡ 8 * bytes place.size
+
+abbrev pub IsFittingUpdate : Place → Updates → Type 0
+IsFittingUpdate place (Combine op w argument) = IsAt place w × (argument < 2 ^ bits w)
+IsFittingUpdate place (Exchange w expected desired) = IsAt place w × (desired < 2 ^ bits w)
+
+abbrev pub IsFitting : Action → Type 0
+IsFitting (Write place n atomic) = n < 2 ^ (8 * bytes place.size)
+IsFitting (Update place update) = IsFittingUpdate place update
+IsFitting other = Unit {0}
 
 -- ---- accesses
 

@@ -48,7 +48,7 @@ use Rattle.inst_meaning.specs.declared.actions.Request.{Request}
 use Rattle.inst_meaning.specs.declared.actions.Request.TheVariants.{Lock, Unlock, Put, Output, Allocate, Free, Argument}
 use Rattle.inst_meaning.specs.declared.actions.Action.{Action}
 use Rattle.inst_meaning.specs.declared.actions.Action.TheVariants.{Assign, Reserve, Read, Write, Update, Pass, Jump, Call, Ask, Create, Join, Exit, Return, Fault}
-use Rattle.inst_meaning.specs.Operands.{width_of, size_of_width, word_at, typed_word, pointer_word, argument_words, index_words}
+use Rattle.inst_meaning.specs.Operands.{width_of, memory_width, size_of_width, word_at, typed_word, pointer_word, argument_words, index_words}
 
 -- ---- callees
 
@@ -140,19 +140,19 @@ abbrev pub place_at : ℕ → Width → Place
 place_at address w = record { address = address; size = size_of_width w }
 
 abbrev pub loading : LayoutParts → List (Option ℕ) → Ty → Val → Bool → Action
-loading l registers ty ptr atomic = on_width (width_of ty) (λ w. on_word (pointer_word l registers ptr) (λ address. Read (place_at address w) atomic))
+loading l registers ty ptr atomic = on_width (memory_width ty) (λ w. on_word (pointer_word l registers ptr) (λ address. Read (place_at address w) atomic))
 
 abbrev pub storing : LayoutParts → List (Option ℕ) → Ty → Val → Val → Bool → Action
 storing l registers ty val ptr atomic =
-    on_width (width_of ty) (λ w. on_word (pointer_word l registers ptr) (λ address. on_word (word_at l registers w val) (λ x. Write (place_at address w) x atomic)))
+    on_width (memory_width ty) (λ w. on_word (pointer_word l registers ptr) (λ address. on_word (word_at l registers w val) (λ x. Write (place_at address w) x atomic)))
 
 abbrev pub combining : LayoutParts → List (Option ℕ) → RmwOp → Val → Ty → Val → Action
 combining l registers op ptr ty val =
-    on_width (width_of ty) (λ w. on_word (pointer_word l registers ptr) (λ address. on_word (word_at l registers w val) (λ x. Update (place_at address w) (Combine op w x))))
+    on_width (memory_width ty) (λ w. on_word (pointer_word l registers ptr) (λ address. on_word (word_at l registers w val) (λ x. Update (place_at address w) (Combine op w x))))
 
 abbrev pub exchanging : LayoutParts → List (Option ℕ) → Val → Ty → Val → Val → Action
 exchanging l registers ptr ty expected desired =
-    on_width (width_of ty) (λ w. on_word (pointer_word l registers ptr) (λ address.
+    on_width (memory_width ty) (λ w. on_word (pointer_word l registers ptr) (λ address.
         on_word (word_at l registers w expected) (λ x. on_word (word_at l registers w desired) (λ y. Update (place_at address w) (Exchange w x y)))))
 
 -- the old word of what a `cmpxchg` gave, or the bit above it

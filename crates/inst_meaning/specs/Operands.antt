@@ -28,6 +28,17 @@ width_step other = None
 abbrev pub width_of : Ty → Option Width
 width_of ty = width_step (out-Ty ty)
 
+-- the width of the words of a type in memory; a word of one bit stands in none
+abbrev pub in_bytes : Width → Option Width
+in_bytes W1 = None
+in_bytes W8 = Some W8
+in_bytes W16 = Some W16
+in_bytes W32 = Some W32
+in_bytes W64 = Some W64
+
+abbrev pub memory_width : Ty → Option Width
+memory_width ty = option_and_then in_bytes (width_of ty)
+
 -- how many bytes such a word takes in memory
 abbrev pub size_of_width : Width → Size
 size_of_width W1 = S1

@@ -1,9 +1,10 @@
 //! What an instruction asks for (LLVM Language Reference, 'Instruction Reference').
 ghost use Rattle.std.specs.Prelude.{◌≡◌, IfOk, slice_index_or};
 ghost use Rattle.inst_meaning.specs.declared.actions.Callee.TheVariants.{Unknown};
+ghost use Rattle.inst_meaning.specs.Accesses.{IsFitting};
 ghost use Rattle.inst_meaning.specs.Action.{operation, comparison, selection, is_cast, conversion, element, place_at, loading, storing, combining, exchanging, extraction, branching, case_of, switching, returning, asked, named_function, creating, asking, outside, calling, action_of, destination};
 
-use crate::operands::{low, size_of_width, width_of};
+use crate::operands::{low, memory_width, size_of_width, width_of};
 use crate::{Action, Callee, Cause, Operands, Place, Request, Update};
 use ir_calls::External;
 use ir_core::{BinOp, CastOp, Flags, Inst, Loc, Pred, RmwOp, Sym, Ty, Val, Width};
@@ -166,7 +167,7 @@ impl Operands<'_> {
     pub(crate) fn load(&self, ty: &Ty, ptr: &Val, atomic: bool) -> Action
         ensures { result ≡ loading self.now.layout.now self.now.registers.now ty.now ptr.now atomic }
     {
-        match (width_of(ty), self.pointer(ptr)) {
+        match (memory_width(ty), self.pointer(ptr)) {
             (Some(w), Some(address)) => Action::Read {
                 place: place_at(address, w),
                 atomic,
@@ -177,9 +178,10 @@ impl Operands<'_> {
 
     // A `store`.
     pub(crate) fn store(&self, ty: &Ty, val: &Val, ptr: &Val, atomic: bool) -> Action
-        ensures { result ≡ storing self.now.layout.now self.now.registers.now ty.now val.now ptr.now atomic }
+        ensures action { result ≡ storing self.now.layout.now self.now.registers.now ty.now val.now ptr.now atomic }
+        ensures fits { IsFitting result }
     {
-        let Some(w) = width_of(ty) else {
+        let Some(w) = memory_width(ty) else {
             return Action::Fault(Cause::Unreachable);
         };
         match (self.pointer(ptr), self.word_at(w, val)) {
@@ -194,9 +196,10 @@ impl Operands<'_> {
 
     // An `atomicrmw`.
     pub(crate) fn combine(&self, op: RmwOp, ptr: &Val, ty: &Ty, val: &Val) -> Action
-        ensures { result ≡ combining self.now.layout.now self.now.registers.now op ptr.now ty.now val.now }
+        ensures action { result ≡ combining self.now.layout.now self.now.registers.now op ptr.now ty.now val.now }
+        ensures fits { IsFitting result }
     {
-        let Some(width) = width_of(ty) else {
+        let Some(width) = memory_width(ty) else {
             return Action::Fault(Cause::Unreachable);
         };
         match (self.pointer(ptr), self.word_at(width, val)) {
@@ -214,9 +217,10 @@ impl Operands<'_> {
 
     // A `cmpxchg`.
     pub(crate) fn exchange(&self, ptr: &Val, ty: &Ty, old: &Val, new: &Val) -> Action
-        ensures { result ≡ exchanging self.now.layout.now self.now.registers.now ptr.now ty.now old.now new.now }
+        ensures action { result ≡ exchanging self.now.layout.now self.now.registers.now ptr.now ty.now old.now new.now }
+        ensures fits { IsFitting result }
     {
-        let Some(width) = width_of(ty) else {
+        let Some(width) = memory_width(ty) else {
             return Action::Fault(Cause::Unreachable);
         };
         let words = (self.word_at(width, old), self.word_at(width, new));
@@ -358,7 +362,8 @@ impl Operands<'_> {
 
     /// What an instruction asks for.
     pub fn action(&self, alloc: Global, inst: &Inst) -> Result<Action, AllocError>
-        ensures { IfOk result (λ action. action ≡ action_of self.now.layout.now self.now.callees.now self.now.registers.now inst.now) }
+        ensures action { IfOk result (λ action. action ≡ action_of self.now.layout.now self.now.callees.now self.now.registers.now inst.now) }
+        ensures fits { IfOk result IsFitting }
     {
         match inst {
             Inst::Bin { op, flags, w, a, b, .. } => Ok(self.operate(*op, *flags, *w, a, b)),

@@ -16,11 +16,9 @@ mod files;
 mod operands;
 mod phis;
 mod requests;
-mod stacks;
 
 pub use actions::{Access, Action, Callee, Cause, Place, Reply, Request, Update};
 pub use calls::callees_of;
 pub use files::Registers;
 pub use operands::Operands;
 pub use requests::World;
-pub use stacks::Stack;

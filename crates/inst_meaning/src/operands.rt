@@ -2,7 +2,7 @@
 ghost use Rattle.std.specs.Prelude.{◌≡◌, ◌<◌, ◌%◌, ◌^◌, Some, None, IfOk, IfSome};
 ghost use Rattle.op_table.specs.Operators.{bits};
 ghost use Rattle.mem_image.specs.Accesses.{bytes};
-ghost use Rattle.inst_meaning.specs.Operands.{width_of, size_of_width, word_of, word_at, typed_word, pointer_word, argument_words, index_words};
+ghost use Rattle.inst_meaning.specs.Operands.{width_of, memory_width, size_of_width, word_of, word_at, typed_word, pointer_word, argument_words, index_words};
 
 use crate::{Callee, Registers};
 use ir_core::{Seq, Ty, Val, Width};
@@ -27,6 +27,16 @@ pub(crate) fn width_of(ty: &Ty) -> Option<Width>
         Ty::Int(w) => Some(*w),
         Ty::Ptr => Some(Width::W64),
         _ => None,
+    }
+}
+
+/// The width of the words of a type in memory; a word of one bit stands in none.
+pub(crate) fn memory_width(ty: &Ty) -> Option<Width>
+    ensures { result ≡ memory_width ty.now }
+{
+    match width_of(ty) {
+        Some(Width::W1) => None,
+        width => width,
     }
 }
 

@@ -1,0 +1,5 @@
+pub mod Labels
+pub mod State
+pub mod Step
+pub mod Runs
+pub mod Races
