@@ -152,7 +152,7 @@ impl CallStack {
         alloc: Global,
         program: &Program<'_>,
         dst: Option<Loc>,
-        function: u32,
+        function: usize,
         words: &[u64],
     ) -> Result<Local, AllocError>
         requires { self.old.frame.index + 1 < 2 ^ 64 }

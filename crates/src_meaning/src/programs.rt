@@ -79,10 +79,10 @@ impl<'a> Program<'a> {
     }
 
     // The blocks of a function, and none where there is no such function.
-    fn blocks(&self, function: u32) -> &[Block]
+    fn blocks(&self, function: usize) -> &[Block]
         ensures { result.now ≡ blocks_at self.now.funcs function }
     {
-        match self.accepted.module().funcs().get(function as usize) {
+        match self.accepted.module().funcs().get(function) {
             Some(f) => f.blocks(),
             None => &[],
         }
@@ -93,7 +93,7 @@ impl<'a> Program<'a> {
         ensures found { option_copied result ≡ inst_at self.now frame.now }
         ensures within { OnSome result (frame.now.index + 1 < 2 ^ 64) }
     {
-        let block = self.blocks(frame.function).get(frame.block as usize)?;
+        let block = self.blocks(frame.function).get(frame.block)?;
         block.insts.items().get(frame.index)
     }
 
@@ -101,14 +101,14 @@ impl<'a> Program<'a> {
     pub(crate) fn enter(
         &self,
         alloc: Global,
-        function: u32,
+        function: usize,
         words: &[u64],
         mark: u64,
     ) -> Result<Frame, AllocError>
         ensures { IfOk result (λ frame. frame ≡ entry_frame self.now function words.now mark) }
     {
         let mut registers = Registers::with_room(alloc, self.room(function))?;
-        if let Some(f) = self.accepted.module().funcs().get(function as usize) {
+        if let Some(f) = self.accepted.module().funcs().get(function) {
             for ((_, at), word) in f.params().iter().zip(words) {
                 registers.assign(Some(*at), u128::from(*word))?;
             }
@@ -124,8 +124,8 @@ impl<'a> Program<'a> {
     }
 
     // How many registers a function has.
-    fn room(&self, function: u32) -> u32 {
-        match self.accepted.module().funcs().get(function as usize) {
+    fn room(&self, function: usize) -> u32 {
+        match self.accepted.module().funcs().get(function) {
             Some(f) => f.loc_count(),
             None => 0,
         }
@@ -138,17 +138,17 @@ impl<'a> Program<'a> {
         frame: &Frame,
         label: Loc,
         words: &mut Vec<(Loc, u64)>,
-    ) -> Result<Option<(u32, usize)>, AllocError>
+    ) -> Result<Option<(usize, usize)>, AllocError>
         ensures { IfOk result (λ place. jumped self.now frame.now label ≡ option_map (landed_at frame.now words.new.items) place) }
     {
         let blocks = self.blocks(frame.function);
-        let Some(from) = blocks.get(frame.block as usize) else {
+        let Some(from) = blocks.get(frame.block) else {
             return Ok(None);
         };
         let Some(number) = self.labels.number(frame.function, label) else {
             return Ok(None);
         };
-        let Some(block) = blocks.get(number as usize) else {
+        let Some(block) = blocks.get(number) else {
             return Ok(None);
         };
         let body = block.insts.items();
@@ -162,13 +162,13 @@ impl<'a> Program<'a> {
     }
 
     /// The number of `main`.
-    pub(crate) fn main(&self) -> u32
+    pub(crate) fn main(&self) -> usize
         ensures { result ≡ main_of self.now }
     {
         let m = self.accepted.module();
         for (number, f) in m.funcs().iter().enumerate() {
             if is_main(m, f) {
-                return number as u32;
+                return number;
             }
         }
         0
@@ -179,7 +179,7 @@ impl<'a> Program<'a> {
         &self,
         alloc: Global,
         t: u32,
-        function: u32,
+        function: usize,
         words: &[u64],
     ) -> Result<Thread, AllocError>
         requires { t < 64 }

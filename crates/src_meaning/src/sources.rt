@@ -159,7 +159,7 @@ impl<'a> Source<'a> {
         t: Tid,
         dst: Option<Loc>,
         address: u64,
-        function: u32,
+        function: usize,
         argument: u64,
     ) -> Result<Step, AllocError> {
         if self.threads.len() >= THREAD_LIMIT {
