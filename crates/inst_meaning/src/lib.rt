@@ -19,6 +19,8 @@ mod requests;
 
 pub use actions::{Access, Action, Callee, Cause, Place, Reply, Request, Update};
 pub use calls::callees_of;
+pub use decoding::destination;
 pub use files::Registers;
 pub use operands::Operands;
+pub use phis::phi_count;
 pub use requests::World;

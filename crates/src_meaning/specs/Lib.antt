@@ -1,4 +1,7 @@
+pub mod Asking
+pub mod Frames
 pub mod Labels
+pub mod Landing
 pub mod State
 pub mod Step
 pub mod Runs

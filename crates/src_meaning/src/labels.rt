@@ -1,0 +1,86 @@
+//! The blocks that labels name.
+ghost use Rattle.std.specs.Prelude.{◌≡◌, IfOk, OnOk};
+ghost use Rattle.ir_action.specs.Registers.{put};
+ghost use Rattle.ir_flow.specs.Edges.{number_of};
+ghost use Rattle.src_meaning.specs.Labels.{IsTable, AreTables, named_in};
+ghost use Rattle.src_meaning.specs.State.{blocks_at};
+
+use ir_core::{Block, Func, Loc};
+use std::alloc::{AllocError, Global};
+use std::marker::Model;
+
+/// The numbers of a function's blocks by their labels. Contracts see a list by label.
+#[derive(Drop)]
+struct LabelTable {
+    numbers: Vec<Option<u32>>,
+}
+
+impl Model for LabelTable {
+    ghost use Rattle.std.specs.Prelude.{List, ℕ, Option};
+
+    ghost Value = { List (Option ℕ) };
+
+    ghost view = { λ t. t.numbers.items };
+}
+
+/// The tables of a module's functions, in order.
+#[derive(Drop)]
+pub(crate) struct Labels {
+    tables: Vec<LabelTable>,
+}
+
+impl Model for Labels {
+    ghost use Rattle.std.specs.Prelude.{List, ℕ, Option};
+
+    ghost Value = { List (List (Option ℕ)) };
+
+    ghost view = { λ l. l.tables.items };
+}
+
+impl LabelTable {
+    // The label names the block with this number.
+    fn set(&mut self, label: Loc, number: u32) -> Result<(), AllocError>
+        ensures { OnOk result (self.new ≡ put self.old label.0 number) }
+    {
+        let at = label.0 as usize;
+        if at >= self.numbers.len() {
+            self.numbers.resize(at + 1, None)?;
+        }
+        self.numbers[at] = Some(number);
+        Ok(())
+    }
+
+    // The table of a function with these blocks. Where two have one label, the last counts.
+    fn of(alloc: Global, blocks: &[Block]) -> Result<LabelTable, AllocError>
+        ensures { IfOk result (λ table. IsTable blocks.now table) }
+    {
+        let mut table = LabelTable {
+            numbers: Vec::new(alloc),
+        };
+        for (number, block) in blocks.iter().enumerate() {
+            table.set(block.label, number as u32)?;
+        }
+        Ok(table)
+    }
+}
+
+impl Labels {
+    /// The tables of these functions.
+    pub(crate) fn of(alloc: Global, funcs: &[Func]) -> Result<Labels, AllocError>
+        ensures { IfOk result (λ labels. AreTables funcs.now labels) }
+    {
+        let mut tables = Vec::with_capacity(alloc, funcs.len())?;
+        for f in funcs {
+            tables.push(LabelTable::of(alloc, f.blocks())?)?;
+        }
+        Ok(Labels { tables })
+    }
+
+    /// The number of the block that a label of a function names.
+    pub(crate) fn number(&self, function: u32, label: Loc) -> Option<u32>
+        ensures { result ≡ named_in (slice_index_or self.now function []) label }
+    {
+        let table = self.tables.get(function as usize)?;
+        *table.numbers.get(label.0 as usize)?
+    }
+}

@@ -1,0 +1,204 @@
+//! What a machine keeps of its program.
+ghost use Rattle.std.specs.Prelude.{◌≡◌, ◌+◌, ◌<◌, ◌^◌, Some, None, true, false, IfOk, OnSome, map};
+ghost use Rattle.std.specs.Option.{option_map, option_copied};
+ghost use Rattle.ir_layout.specs.Memory.{layout_of};
+ghost use Rattle.inst_meaning.specs.Action.{callees_of};
+ghost use Rattle.inst_meaning.specs.Phis.{all_assigned};
+ghost use Rattle.src_meaning.specs.State.{blocks_at, inst_at, params_at, entry_frame, new_thread, main_of};
+ghost use Rattle.src_meaning.specs.Step.{jumped};
+ghost use Rattle.ir_check.specs.Functions.{is_main};
+ghost use Rattle.src_meaning.specs.Landing.{landed_at};
+
+use crate::labels::Labels;
+use crate::moves::stack_start;
+use crate::{CallStack, Callers, Frame, Thread};
+use inst_meaning::{Callee, Operands, Registers, callees_of, phi_count};
+use ir_check::Accepted;
+use ir_core::{Block, Func, Inst, Loc, Module, Ty, Width};
+use std::alloc::{AllocError, Global};
+use std::marker::Model;
+
+/// A program with its tables: what its names stand for where they are called, and the blocks of its labels. Contracts see the program.
+#[derive(Drop)]
+pub(crate) struct Program<'a> {
+    accepted: &'a Accepted,
+    callees: Vec<Callee>,
+    labels: Labels,
+}
+
+impl<'a> Model for Program<'a> {
+    ghost use Rattle.std.specs.Prelude.{◌≡◌};
+    ghost use Rattle.std.specs.Coded.{codes};
+    ghost use Rattle.ir_core.specs.contracts.types.Ty as ty;
+    ghost use Rattle.ir_core.specs.contracts.values.Init as init;
+    ghost use Rattle.ir_core.specs.Module.{ModuleParts};
+    ghost use Rattle.inst_meaning.specs.Action.{callees_of};
+    ghost use Rattle.src_meaning.specs.Labels.{AreTables};
+
+    ghost Value = { ModuleParts };
+
+    ghost coded = { Prim.hlevel (codes, ty.the_row.coded, init.the_row.coded) };
+
+    ghost view = { λ p. p.accepted.now };
+
+    ghost invariant = { λ p. (p.callees.items ≡ callees_of p.accepted.now) × AreTables p.accepted.now.funcs p.labels };
+}
+
+impl<'a> Program<'a> {
+    /// An accepted module with its tables.
+    pub(crate) fn new(alloc: Global, m: &'a Accepted) -> Result<Program<'a>, AllocError>
+        ensures { IfOk result (λ program. program ≡ m.now) }
+    {
+        let callees = callees_of(alloc, m.module())?;
+        let labels = Labels::of(alloc, m.module().funcs())?;
+        Ok(Program {
+            accepted: m,
+            callees,
+            labels,
+        })
+    }
+
+    /// The module.
+    pub(crate) fn accepted(&self) -> &Accepted
+        ensures { result.now ≡ self.now }
+    {
+        self.accepted
+    }
+
+    /// What operands are read with, in a frame with these registers.
+    pub(crate) fn operands<'b>(&'b self, registers: &'b Registers) -> Operands<'b>
+        ensures layout { result.layout.now ≡ layout_of self.now }
+        ensures callees { result.callees.now ≡ callees_of self.now }
+        ensures registers { result.registers.now ≡ registers.now }
+    {
+        Operands {
+            layout: self.accepted.layout(),
+            callees: self.callees.as_slice(),
+            registers,
+        }
+    }
+
+    // The blocks of a function, and none where there is no such function.
+    fn blocks(&self, function: u32) -> &[Block]
+        ensures { result.now ≡ blocks_at self.now.funcs function }
+    {
+        match self.accepted.module().funcs().get(function as usize) {
+            Some(f) => f.blocks(),
+            None => &[],
+        }
+    }
+
+    /// The instruction at a frame's place.
+    pub(crate) fn inst(&self, frame: &Frame) -> Option<&Inst>
+        ensures found { option_copied result ≡ inst_at self.now frame.now }
+        ensures within { OnSome result (frame.now.index + 1 < 2 ^ 64) }
+    {
+        let block = self.blocks(frame.function).get(frame.block as usize)?;
+        block.insts.items().get(frame.index)
+    }
+
+    /// A function is entered with these words.
+    pub(crate) fn enter(
+        &self,
+        alloc: Global,
+        function: u32,
+        words: &[u64],
+        mark: u64,
+    ) -> Result<Frame, AllocError>
+        ensures { IfOk result (λ frame. frame ≡ entry_frame self.now function words.now mark) }
+    {
+        let mut registers = Registers::with_room(alloc, self.room(function))?;
+        if let Some(f) = self.accepted.module().funcs().get(function as usize) {
+            for ((_, at), word) in f.params().iter().zip(words) {
+                registers.assign(Some(*at), u128::from(*word))?;
+            }
+        }
+        Ok(Frame {
+            function,
+            block: 0,
+            index: 0,
+            registers,
+            mark,
+            waiting: None,
+        })
+    }
+
+    // How many registers a function has.
+    fn room(&self, function: u32) -> u32 {
+        match self.accepted.module().funcs().get(function as usize) {
+            Some(f) => f.loc_count(),
+            None => 0,
+        }
+    }
+
+    /// Where a jump to a label leads from a frame: the number of the block and the index behind its phis. `words` becomes what
+    /// the phis take. The answer is `None` exactly where the frame can't jump.
+    pub(crate) fn landing(
+        &self,
+        frame: &Frame,
+        label: Loc,
+        words: &mut Vec<(Loc, u64)>,
+    ) -> Result<Option<(u32, usize)>, AllocError>
+        ensures { IfOk result (λ place. jumped self.now frame.now label ≡ option_map (landed_at frame.now words.new.items) place) }
+    {
+        let blocks = self.blocks(frame.function);
+        let Some(from) = blocks.get(frame.block as usize) else {
+            return Ok(None);
+        };
+        let Some(number) = self.labels.number(frame.function, label) else {
+            return Ok(None);
+        };
+        let Some(block) = blocks.get(number as usize) else {
+            return Ok(None);
+        };
+        let body = block.insts.items();
+        let count = phi_count(body);
+        let operands = self.operands(&frame.registers);
+        if operands.phi_words(from.label, &body[..count], words)? {
+            Ok(Some((number, count)))
+        } else {
+            Ok(None)
+        }
+    }
+
+    /// The number of `main`.
+    pub(crate) fn main(&self) -> u32
+        ensures { result ≡ main_of self.now }
+    {
+        let m = self.accepted.module();
+        for (number, f) in m.funcs().iter().enumerate() {
+            if is_main(m, f) {
+                return number as u32;
+            }
+        }
+        0
+    }
+
+    /// A new thread in a function.
+    pub(crate) fn start(
+        &self,
+        alloc: Global,
+        t: u32,
+        function: u32,
+        words: &[u64],
+    ) -> Result<Thread, AllocError>
+        requires { t < 64 }
+        ensures { IfOk result (λ thread. thread ≡ new_thread self.now t function words.now) }
+    {
+        let mark = stack_start(t);
+        let frame = self.enter(alloc, function, words, mark)?;
+        Ok(Thread::Running(CallStack {
+            mark,
+            frame,
+            callers: Callers::new(alloc),
+        }))
+    }
+}
+
+// Whether a function is `i32 @main()`.
+fn is_main(m: &Module, f: &Func) -> bool
+    ensures { result ≡ is_main m.now f.now }
+{
+    let named = f.sym().0 < m.sym_count() && m.sym_name(f.sym()) == b"main".as_slice();
+    named && matches!(f.ret(), Ty::Int(Width::W32)) && f.params().is_empty()
+}
