@@ -6,6 +6,7 @@ ghost use Rattle.inst_meaning.specs.Action.{callees_of};
 ghost use Rattle.inst_meaning.specs.Phis.{all_assigned};
 ghost use Rattle.src_meaning.specs.State.{blocks_at, inst_at, params_at, entry_frame, new_thread, main_of};
 ghost use Rattle.src_meaning.specs.Step.{jumped};
+ghost use Rattle.ir_layout.specs.Limits.{name_at};
 ghost use Rattle.ir_check.specs.Functions.{is_main};
 ghost use Rattle.src_meaning.specs.Landing.{landed_at};
 
@@ -14,7 +15,7 @@ use crate::moves::stack_start;
 use crate::{CallStack, Callers, Frame, Thread};
 use inst_meaning::{Callee, Operands, Registers, callees_of, phi_count};
 use ir_check::Accepted;
-use ir_core::{Block, Func, Inst, Loc, Module, Ty, Width};
+use ir_core::{Block, Func, Inst, Loc, Module, Sym, Ty, Width};
 use std::alloc::{AllocError, Global};
 use std::marker::Model;
 
@@ -195,10 +196,22 @@ impl<'a> Program<'a> {
     }
 }
 
+// The bytes of an `@` name, and none where the module has none of that number.
+fn sym_name(m: &Module, sym: Sym) -> &[u8]
+    ensures { result.now ≡ name_at m.now.syms sym.0 }
+{
+    if sym.0 < m.sym_count() {
+        m.sym_name(sym)
+    } else {
+        b""
+    }
+}
+
 // Whether a function is `i32 @main()`.
 fn is_main(m: &Module, f: &Func) -> bool
     ensures { result ≡ is_main m.now f.now }
 {
-    let named = f.sym().0 < m.sym_count() && m.sym_name(f.sym()) == b"main".as_slice();
-    named && matches!(f.ret(), Ty::Int(Width::W32)) && f.params().is_empty()
+    sym_name(m, f.sym()) == b"main".as_slice()
+        && matches!(f.ret(), Ty::Int(Width::W32))
+        && f.params().is_empty()
 }

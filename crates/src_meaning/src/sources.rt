@@ -1,11 +1,12 @@
 //! The source machine.
-ghost use Rattle.std.specs.Prelude.{◌≡◌, ◌+◌, ◌<◌, ◌^◌, ◌++◌, ◌∷◌, [], length, slice_get, slice_set, Some, None, IfOk, OnOk, OnErr};
+ghost use Rattle.std.specs.Prelude.{◌≡◌, ◌+◌, ◌<◌, ◌≤◌, ◌^◌, length, slice_get, slice_set, Some, IfOk, OnOk, OnErr};
 ghost use Rattle.inst_meaning.specs.World.{asked_of};
 ghost use Rattle.src_meaning.specs.declared.state.Thread.{Thread};
 ghost use Rattle.src_meaning.specs.declared.state.Thread.TheVariants.{Running};
 ghost use Rattle.src_meaning.specs.declared.state.CallStack.{CallStack};
-ghost use Rattle.src_meaning.specs.State.{opening, new_thread};
-ghost use Rattle.src_meaning.specs.Step.{in_frame, resulted, exited, acted, created, joined, fetched, turned, step};
+ghost use Rattle.inst_meaning.specs.declared.actions.Action.TheVariants.{Create, Join};
+ghost use Rattle.src_meaning.specs.State.{inst_at, opening};
+ghost use Rattle.src_meaning.specs.Step.{in_frame, resulted, exited, acted, fetched, step};
 ghost use Rattle.src_meaning.specs.Races.{next_access};
 ghost use Rattle.src_meaning.specs.Asking.{stack_after, step_of};
 
@@ -34,9 +35,17 @@ pub struct Source<'a> {
 }
 
 impl<'a> Model for Source<'a> {
+    ghost use Rattle.std.specs.Prelude.{◌≤◌, length};
+    ghost use Rattle.std.specs.Coded.{codes};
+    ghost use Rattle.ir_core.specs.contracts.types.Ty as ty;
+    ghost use Rattle.ir_core.specs.contracts.values.Init as init;
     ghost use Rattle.src_meaning.specs.State.{Sourced};
 
     ghost Value = { Sourced };
+
+    ghost coded = { Prim.hlevel (codes, ty.the_row.coded, init.the_row.coded) };
+
+    ghost invariant = { λ s. length s.threads.items ≤ 64 };
 
     ghost view = { λ s. record {
       program = s.program;
@@ -116,7 +125,8 @@ impl<'a> Source<'a> {
 
     /// How many threads were made.
     pub fn made(&self) -> usize
-        ensures { result ≡ length self.now.state.threads }
+        ensures count { result ≡ length self.now.state.threads }
+        ensures few { result ≤ 64 }
     {
         self.threads.len()
     }
@@ -161,7 +171,12 @@ impl<'a> Source<'a> {
         address: u64,
         function: usize,
         argument: u64,
-    ) -> Result<Step, AllocError> {
+    ) -> Result<Step, AllocError>
+        requires { (stack : CallStack) → slice_get self.old.state.threads t.0 ≡ Some (Running stack) → stack.frame.index + 1 < 2 ^ 64 }
+        ensures answer { (stack : CallStack) → slice_get self.old.state.threads t.0 ≡ Some (Running stack) → IfOk result (λ answer. answer ≡ (acted self.old.program self.old.state t.0 dst stack (Create address function argument)).1) }
+        ensures state { (stack : CallStack) → slice_get self.old.state.threads t.0 ≡ Some (Running stack) → OnOk result (self.new ≡ record self.old { state = (acted self.old.program self.old.state t.0 dst stack (Create address function argument)).0 }) }
+        ensures err { OnErr result (self.new ≡ self.old) }
+    {
         if self.threads.len() >= THREAD_LIMIT {
             finish_call(&mut self.threads, t, dst, 11)?;
             return Ok(Step::Went);
@@ -181,7 +196,12 @@ impl<'a> Source<'a> {
     }
 
     // A thread is waited for.
-    fn join(&mut self, t: Tid, dst: Option<Loc>, other: u64) -> Result<Step, AllocError> {
+    fn join(&mut self, t: Tid, dst: Option<Loc>, other: u64) -> Result<Step, AllocError>
+        requires { (stack : CallStack) → slice_get self.old.state.threads t.0 ≡ Some (Running stack) → stack.frame.index + 1 < 2 ^ 64 }
+        ensures answer { (stack : CallStack) → slice_get self.old.state.threads t.0 ≡ Some (Running stack) → IfOk result (λ answer. answer ≡ (acted self.old.program self.old.state t.0 dst stack (Join other)).1) }
+        ensures state { (stack : CallStack) → slice_get self.old.state.threads t.0 ≡ Some (Running stack) → OnOk result (self.new ≡ record self.old { state = (acted self.old.program self.old.state t.0 dst stack (Join other)).0 }) }
+        ensures err { OnErr result (self.new ≡ self.old) }
+    {
         if other >= self.threads.len() as u64 {
             return Ok(Step::Undefined(Cause::Join));
         }
@@ -195,7 +215,12 @@ impl<'a> Source<'a> {
     }
 
     // A thread that runs does its next instruction.
-    fn run(&mut self, t: Tid) -> Result<Step, AllocError> {
+    fn run(&mut self, t: Tid) -> Result<Step, AllocError>
+        requires { t.0 < 64 }
+        ensures answer { (stack : CallStack) → slice_get self.old.state.threads t.0 ≡ Some (Running stack) → IfOk result (λ answer. answer ≡ (fetched self.old.program self.old.state t.0 stack (inst_at self.old.program stack.frame)).1) }
+        ensures state { (stack : CallStack) → slice_get self.old.state.threads t.0 ≡ Some (Running stack) → OnOk result (self.new ≡ record self.old { state = (fetched self.old.program self.old.state t.0 stack (inst_at self.old.program stack.frame)).0 }) }
+        ensures err { OnErr result (self.new ≡ self.old) }
+    {
         let Some(Thread::Running(stack)) = self.threads.get_mut(t.0 as usize) else {
             return Ok(Step::Idle);
         };
