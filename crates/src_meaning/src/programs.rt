@@ -1,19 +1,20 @@
 //! What a machine keeps of its program.
-ghost use Rattle.std.specs.Prelude.{◌≡◌, ◌+◌, ◌<◌, ◌^◌, Some, None, true, false, IfOk, OnSome, map};
+ghost use Rattle.std.specs.Prelude.{◌≡◌, ◌+◌, ◌<◌, ◌^◌, Some, None, true, false, IfOk, IfSome, OnSome, map};
 ghost use Rattle.std.specs.Option.{option_map, option_copied};
 ghost use Rattle.ir_layout.specs.Memory.{layout_of};
+ghost use Rattle.inst_meaning.specs.Accesses.{IsFitting};
 ghost use Rattle.inst_meaning.specs.Action.{callees_of};
 ghost use Rattle.inst_meaning.specs.Phis.{all_assigned};
 ghost use Rattle.src_meaning.specs.State.{blocks_at, inst_at, params_at, entry_frame, new_thread, main_of};
 ghost use Rattle.src_meaning.specs.Step.{jumped};
 ghost use Rattle.ir_layout.specs.Limits.{name_at};
 ghost use Rattle.ir_check.specs.Functions.{is_main};
-ghost use Rattle.src_meaning.specs.Landing.{landed_at};
+ghost use Rattle.src_meaning.specs.Landing.{landed_at, decoded};
 
 use crate::labels::Labels;
 use crate::moves::stack_start;
 use crate::{CallStack, Callers, Frame, Thread};
-use inst_meaning::{Callee, Operands, Registers, callees_of, phi_count};
+use inst_meaning::{Action, Callee, Operands, Registers, callees_of, destination, phi_count};
 use ir_check::Accepted;
 use ir_core::{Block, Func, Inst, Loc, Module, Sym, Ty, Width};
 use std::alloc::{AllocError, Global};
@@ -33,7 +34,8 @@ impl<'a> Model for Program<'a> {
     ghost use Rattle.ir_core.specs.contracts.types.Ty as ty;
     ghost use Rattle.ir_core.specs.contracts.values.Init as init;
     ghost use Rattle.ir_core.specs.Module.{ModuleParts};
-    ghost use Rattle.inst_meaning.specs.Action.{callees_of};
+    ghost use Rattle.inst_meaning.specs.Accesses.{IsFitting};
+ghost use Rattle.inst_meaning.specs.Action.{callees_of};
     ghost use Rattle.src_meaning.specs.Labels.{AreTables};
 
     ghost Value = { ModuleParts };
@@ -96,6 +98,23 @@ impl<'a> Program<'a> {
     {
         let block = self.blocks(frame.function).get(frame.block)?;
         block.insts.items().get(frame.index)
+    }
+
+    /// What the instruction at a frame's place asks for, and the register that takes its result.
+    pub(crate) fn decode(
+        &self,
+        alloc: Global,
+        frame: &Frame,
+    ) -> Result<Option<(Option<Loc>, Action)>, AllocError>
+        ensures decoded { IfOk result (λ found. found ≡ decoded self.now frame.now) }
+        ensures within { IfOk result (λ found. OnSome found (frame.now.index + 1 < 2 ^ 64)) }
+        ensures fits { IfOk result (λ found. IfSome found (λ each. IsFitting each.1)) }
+    {
+        let Some(inst) = self.inst(frame) else {
+            return Ok(None);
+        };
+        let action = self.operands(&frame.registers).action(alloc, inst)?;
+        Ok(Some((destination(inst), action)))
     }
 
     /// A function is entered with these words.
