@@ -1,6 +1,7 @@
 -- A request in the name of a thread, as the code does it: on the thread and the world alone.
-use Rattle.std.proofs.Common.{ℕ, zero, suc, ◌≡◌, List, [], ◌∷◌, Option, Some, None, Bool, true, false, refl, sym, ap, ◌∙◌, slice_get, slice_set, get_or}
-use Rattle.std.specs.Prelude.{nat_le}
+use Rattle.std.proofs.Common.{ℕ, zero, suc, ◌≡◌, ◌<◌, List, [], ◌∷◌, ◌++◌, length, arith, Option, Some, None, Bool, true, false, refl, sym, ap, ◌∙◌, slice_get, slice_set, get_or}
+use Rattle.std.proofs.Math.ListN.{get_or-append}
+use Rattle.std.proofs.lemmas.List.{set-append_left}
 use Rattle.ir_core.specs.declared.types.Loc.{Loc}
 use Rattle.ir_core.specs.Module.{ModuleParts}
 use Rattle.inst_meaning.specs.declared.actions.Request.{Request}
@@ -16,7 +17,7 @@ use Rattle.src_meaning.specs.declared.state.Step.{Step}
 use Rattle.mem_image.specs.Bytes.{Memory}
 use Rattle.src_meaning.specs.State.{State, Sourced}
 use Rattle.src_meaning.specs.Step.{replied, in_frame, resulted}
-use Rattle.src_meaning.specs.Asking.{answer_to, world_behind, thread_behind, acted_by, runs, step_of, stack_after}
+use Rattle.src_meaning.specs.Asking.{answer_to, world_behind, thread_behind, acted_by, runs, step_of, stack_after, finished, finished_at, with_finished, with_added}
 
 -- what stands at a place, put there again, changes nothing
 pub set_same : {A : Type 0} (xs : List A) (k : ℕ) (x : A) → slice_get xs k ≡ Some x → slice_set xs k x ≡ xs
@@ -97,3 +98,28 @@ asked_state now program mem threads world ended t dst request thread e r found =
     let runs_there : runs (Some thread) ≡ true = ap runs (sym at) ∙ r in
     ap (λ (x : State × Step). with_state program x.0) (sym (ap (λ (o : Option Thread). acted_by program s t dst o (Ask request)) at ∙ asked_behind program s t dst request thread at runs_there))
     ∙ ap (λ (v : Sourced). behind_asked v t dst request) e
+
+-- ---- a thread is added
+
+within : (threads : List Thread) (t : ℕ) → runs (slice_get threads t) ≡ true → t < length threads
+within [] t r = absurd cc
+within (x ∷ xs) zero r = omega arith
+within (x ∷ xs) (suc t) r = let e : t < length xs = within xs t r in omega (arith, e)
+
+abbrev pub behind_added : Sourced → ℕ → Option Loc → Thread → Sourced
+behind_added now t dst thread = record { program = now.program; state = with_added thread (with_finished dst 0 t now.state) }
+
+pub added_state : (now : Sourced) (program : ModuleParts) (mem : Memory) (threads : List Thread) (world : WorldParts) (ended : Bool) (t : ℕ) (dst : Option Loc) (thread : Thread) (items : List Thread) (old new : Thread)
+    → sourced program mem threads world ended ≡ now → runs (slice_get now.state.threads t) ≡ true → items ≡ threads ++ thread ∷ [] → old ≡ get_or items t old → new ≡ finished dst 0 old
+    → sourced program mem (slice_set items t new) world ended ≡ behind_added now t dst thread
+added_state now program mem threads world ended t dst thread items old new e r pushed found done =
+    let r : runs (slice_get threads t) ≡ true = ap (λ (v : Sourced). runs (slice_get v.state.threads t)) e ∙ r in
+    let inside : t < length threads = within threads t r in
+    let found : old ≡ get_or threads t old = found ∙ ap (λ (xs : List Thread). get_or xs t old) pushed ∙ get_or-append threads (thread ∷ []) old t inside in
+    let at : slice_get threads t ≡ Some old = there threads t old r found in
+    let s : State = record { memory = mem; threads = threads; world = world; ended = ended } in
+    let list : slice_set items t new ≡ slice_set threads t (finished dst 0 old) ++ thread ∷ [] =
+        ap (λ (xs : List Thread). slice_set xs t new) pushed ∙ set-append_left threads (thread ∷ []) t new inside ∙ ap (λ (x : Thread). slice_set threads t x ++ thread ∷ []) done in
+    ap (λ (xs : List Thread). sourced program mem xs world ended) list
+    ∙ sym (ap (λ (o : Option Thread). with_state program (with_added thread (finished_at dst 0 t o s))) at)
+    ∙ ap (λ (v : Sourced). behind_added v t dst thread) e

@@ -410,7 +410,7 @@ impl<'a> Source<'a> {
         ensures err { OnErr result (self.new ≡ self.old) }
     {
         let place = t.0 as usize;
-        self.threads[place].act(
+        let answer = self.threads[place].act(
             self.alloc,
             &self.program,
             &mut self.image,
@@ -418,7 +418,8 @@ impl<'a> Source<'a> {
             t,
             dst,
             action,
-        )
+        )?;
+        Ok(answer)
     }
 
     // What the instruction at a thread's place asks for, where it has one.
