@@ -1,0 +1,2 @@
+mod Resumed
+mod Tables
