@@ -1,2 +1,5 @@
-pub mod Locals
-pub mod Outsides
+mod Locals
+mod Outsides
+mod Resumed
+mod Tables
+mod Turning

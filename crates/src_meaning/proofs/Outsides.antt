@@ -72,7 +72,7 @@ asked_behind m s t dst request (Exiting n) at r = absurd cc
 asked_behind m s t dst request Ended at r = absurd cc
 
 -- a thread that runs is there
-there : (threads : List Thread) (t : ℕ) (thread : Thread) → runs (slice_get threads t) ≡ true → thread ≡ get_or threads t thread → slice_get threads t ≡ Some thread
+pub there : (threads : List Thread) (t : ℕ) (thread : Thread) → runs (slice_get threads t) ≡ true → thread ≡ get_or threads t thread → slice_get threads t ≡ Some thread
 there [] t thread r e = absurd cc
 there (x ∷ xs) zero thread r e = ap Some (sym e)
 there (x ∷ xs) (suc t) thread r e = there xs t thread r e

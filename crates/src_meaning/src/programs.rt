@@ -186,12 +186,7 @@ impl<'a> Program<'a> {
         ensures { result ≡ main_of self.now }
     {
         let m = self.accepted.module();
-        for (number, f) in m.funcs().iter().enumerate() {
-            if is_main(m, f) {
-                return number;
-            }
-        }
-        0
+        m.funcs().iter().position(|f| is_main(m, f)).unwrap_or(0)
     }
 
     /// A new thread in a function.

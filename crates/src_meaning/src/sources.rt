@@ -446,11 +446,13 @@ impl<'a> Source<'a> {
         };
         if let Some(outside) = Outside::of(&action) {
             drop(action);
-            return self.act_outside(t, dst, outside);
+            let answer = self.act_outside(t, dst, outside)?;
+            return Ok(answer);
         }
         let answer = self.act(t, dst, &action);
         drop(action);
-        answer
+        let answer = answer?;
+        Ok(answer)
     }
 
     /// A step of a thread. After want of memory, and where the step waits, is idle or is undefined, nothing has changed.
