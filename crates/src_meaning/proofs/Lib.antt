@@ -1,2 +1,3 @@
+mod Params
 mod Resumed
 mod Tables
