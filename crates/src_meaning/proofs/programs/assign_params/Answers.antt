@@ -10,7 +10,7 @@ pub loop-at-preserved : goal.loop-at-preserved
 loop-at-preserved c =
     let s = c.into_iter-at-iterator.result in
     let params : iter_rest (zip_first s) ≡ c.args.params.now = cc (c.into_iter-at-iterator.ensures.into_iter_gives, c.zip-at-items.ensures.first, c.iter.ensures.rest) in
-    let words : iter_rest (zip_second s) ≡ c.args.words.now = cc (c.into_iter-at-iterator.ensures.into_iter_gives, c.zip-at-items.ensures.second) in
+    let words : iter_rest (zip_second s) ≡ c.args.words.now = let given : iter_rest (zip_second c.zip-at-items.result) ≡ c.args.words.now = c.zip-at-items.ensures.second in cc (c.into_iter-at-iterator.ensures.into_iter_gives, given) in
     let turn = zip_turn c.args.params.now c.args.words.now c.loop-at.yielded s c.loop-at.at-iterator c.next.new.self c.next.result params words c.loop-at.yielded_by (c.in-Some.field-0-0, c.in-Some.word) c.in-Some.is c.next.ensures.steps in
     rw length_push (all_assigned-param c.args.params.now c.args.words.now _ _ _ _ _ _ turn.0 turn.1 (turn.2 _) (turn.3 _) c.from.ensures c.in_ok-assign.ensures.ok ∙ c.loop-at.invariant)
 
@@ -18,6 +18,6 @@ pub returns : goal.returns
 returns c =
     let s = c.into_iter-at-iterator.result in
     let params : iter_rest (zip_first s) ≡ c.args.params.now = cc (c.into_iter-at-iterator.ensures.into_iter_gives, c.zip-at-items.ensures.first, c.iter.ensures.rest) in
-    let words : iter_rest (zip_second s) ≡ c.args.words.now = cc (c.into_iter-at-iterator.ensures.into_iter_gives, c.zip-at-items.ensures.second) in
+    let words : iter_rest (zip_second s) ≡ c.args.words.now = let given : iter_rest (zip_second c.zip-at-items.result) ≡ c.args.words.now = c.zip-at-items.ensures.second in cc (c.into_iter-at-iterator.ensures.into_iter_gives, given) in
     let all = zip_end c.args.params.now c.args.words.now c.loop-at.yielded s c.loop-at.at-iterator c.next.new.self c.next.result params words c.loop-at.yielded_by c.in-None.is c.next.ensures.steps in
     sym (all_assigned-params c.args.params.now c.args.words.now _ c.loop-at.registers all) ∙ c.loop-at.invariant
