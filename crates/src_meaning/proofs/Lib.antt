@@ -1,5 +1,6 @@
 mod Locals
 mod Outsides
+mod Params
 mod Resumed
 mod Tables
 mod Turning

@@ -1,5 +1,6 @@
 //! What a machine keeps of its program.
-ghost use Rattle.std.specs.Prelude.{◌≡◌, ◌+◌, ◌<◌, ◌^◌, Some, None, true, false, IfOk, IfSome, OnSome, map};
+ghost use Rattle.std.specs.Prelude.{◌≡◌, ◌+◌, ◌<◌, ◌^◌, IfOk, IfSome, OnOk, OnSome};
+ghost use Rattle.std.specs.List.{zip};
 ghost use Rattle.std.specs.Option.{option_map, option_copied};
 ghost use Rattle.ir_layout.specs.Memory.{layout_of};
 ghost use Rattle.inst_meaning.specs.Accesses.{IsFitting};
@@ -129,9 +130,7 @@ impl<'a> Program<'a> {
     {
         let mut registers = Registers::with_room(alloc, self.room(function))?;
         if let Some(f) = self.accepted.module().funcs().get(function) {
-            for ((_, at), word) in f.params().iter().zip(words) {
-                registers.assign(Some(*at), u128::from(*word))?;
-            }
+            assign_params(&mut registers, f.params(), words)?;
         }
         Ok(Frame {
             function,
@@ -208,6 +207,20 @@ impl<'a> Program<'a> {
             callers: Callers::new(alloc),
         }))
     }
+}
+
+// The parameters take the words, one after another.
+fn assign_params(
+    registers: &mut Registers,
+    params: &[(Ty, Loc)],
+    words: &[u64],
+) -> Result<(), AllocError>
+    ensures { OnOk result (registers.new ≡ all_assigned (zip (map (λ param. param.1) params.now) words.now) registers.old) }
+{
+    for ((_, at), word) in params.iter().zip(words) {
+        registers.assign(Some(*at), u128::from(*word))?;
+    }
+    Ok(())
 }
 
 // The bytes of an `@` name, and none where the module has none of that number.

@@ -1,16 +1,16 @@
-use Rattle.std.proofs.Common.{arith, rules, ◌≡◌, ap, ◌∙◌, sym, ℕ, Option}
+use Rattle.std.proofs.Common.{arith, rules, tests, ◌≡◌, ap, ◌∙◌, sym, ℕ, Option}
 use Rattle.std.specs.List.{position}
 use Rattle.std.specs.Option.{unwrap_or}
+use Rattle.std.proofs.lemmas.Iterator.{YieldsList-from_slice}
+use Rattle.std.proofs.lemmas.Iterator.Search.{position_from_yields_List}
+use Rattle.ir_core.specs.Module.{ModuleParts}
 use Rattle.ir_check.specs.Functions.{is_main}
+use Rattle.src_meaning.specs.State.{main_of}
 use Rattle.src_meaning.proofs.programs.Program.main.Goals as goal
 
 pub returns : goal.returns
 returns c =
-    let m = c.self.view_is in
-    let a = c.module-m.ensures.module in
-    let b = c.funcs.ensures in
-    let d = c.iter.ensures.rest in
-    let e = c.unwrap_or.ensures in
-    let r = c.position.ensures.runs in
-    let found : c.position.result ≡ position (is_main c.module-m.result.now) c.funcs.result.now = search rules in
-    ?
+    let m = c.module-m.result.now in
+    let found : c.position.result ≡ position (is_main m) m.funcs = position_from_yields_List (is_main m) _ _ c.position.result c.position.ensures.ran (YieldsList-from_slice m.funcs (c.iter.ensures.rest ∙ c.funcs.ensures)) (λ x b q k. search (rules, tests)) in
+    let program : m ≡ c.args.self.now = c.module-m.ensures.module ∙ c.self.view_is in
+    c.unwrap_or.ensures ∙ ap (λ (o : Option ℕ). unwrap_or o 0) found ∙ ap main_of program
