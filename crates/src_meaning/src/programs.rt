@@ -1,5 +1,6 @@
 //! What a machine keeps of its program.
-ghost use Rattle.std.specs.Prelude.{◌≡◌, ◌+◌, ◌<◌, ◌^◌, Some, None, true, false, IfOk, OnSome, map};
+ghost use Rattle.std.specs.Prelude.{◌≡◌, ◌+◌, ◌<◌, ◌^◌, Some, None, true, false, IfOk, OnOk, OnSome, map};
+ghost use Rattle.std.specs.List.{zip};
 ghost use Rattle.std.specs.Option.{option_map, option_copied};
 ghost use Rattle.ir_layout.specs.Memory.{layout_of};
 ghost use Rattle.inst_meaning.specs.Action.{callees_of};
@@ -110,9 +111,7 @@ impl<'a> Program<'a> {
     {
         let mut registers = Registers::with_room(alloc, self.room(function))?;
         if let Some(f) = self.accepted.module().funcs().get(function) {
-            for ((_, at), word) in f.params().iter().zip(words) {
-                registers.assign(Some(*at), u128::from(*word))?;
-            }
+            assign_params(&mut registers, f.params(), words)?;
         }
         Ok(Frame {
             function,
@@ -167,12 +166,7 @@ impl<'a> Program<'a> {
         ensures { result ≡ main_of self.now }
     {
         let m = self.accepted.module();
-        for (number, f) in m.funcs().iter().enumerate() {
-            if is_main(m, f) {
-                return number;
-            }
-        }
-        0
+        m.funcs().iter().position(|f| is_main(m, f)).unwrap_or(0)
     }
 
     /// A new thread in a function.
@@ -194,6 +188,20 @@ impl<'a> Program<'a> {
             callers: Callers::new(alloc),
         }))
     }
+}
+
+// The parameters take the words, one after another.
+fn assign_params(
+    registers: &mut Registers,
+    params: &[(Ty, Loc)],
+    words: &[u64],
+) -> Result<(), AllocError>
+    ensures { OnOk result (registers.new ≡ all_assigned (zip (map (λ param. param.1) params.now) words.now) registers.old) }
+{
+    for ((_, at), word) in params.iter().zip(words) {
+        registers.assign(Some(*at), u128::from(*word))?;
+    }
+    Ok(())
 }
 
 // The bytes of an `@` name, and none where the module has none of that number.
