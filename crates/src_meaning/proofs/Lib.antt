@@ -1,6 +1,6 @@
 mod Locals
 mod Outsides
-mod Params
-mod Resumed
-mod Tables
+pub mod Params
+pub mod Resumed
+pub mod Tables
 mod Turning

@@ -1,9 +1,8 @@
-use Rattle.std.proofs.Common.{arith, rules, tests, ◌≡◌, ap, ◌∙◌, sym, ℕ, Option}
+use Rattle.std.proofs.Common.{rules, tests, ◌≡◌, ap, ◌∙◌, ℕ, Option}
 use Rattle.std.specs.List.{position}
 use Rattle.std.specs.Option.{unwrap_or}
 use Rattle.std.proofs.lemmas.Iterator.{YieldsList-from_slice}
 use Rattle.std.proofs.lemmas.Iterator.Search.{position_from_yields_List}
-use Rattle.ir_core.specs.Module.{ModuleParts}
 use Rattle.ir_check.specs.Functions.{is_main}
 use Rattle.src_meaning.specs.State.{main_of}
 use Rattle.src_meaning.proofs.programs.Program.main.Goals as goal
