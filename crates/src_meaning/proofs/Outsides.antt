@@ -16,7 +16,7 @@ use Rattle.src_meaning.specs.declared.state.Thread.TheVariants.{Running, Exiting
 use Rattle.src_meaning.specs.declared.state.Step.{Step}
 use Rattle.mem_image.specs.Bytes.{Memory}
 use Rattle.src_meaning.specs.State.{State, Sourced}
-use Rattle.src_meaning.specs.Step.{replied, in_frame, resulted}
+use Rattle.src_meaning.specs.Step.{replied}
 use Rattle.src_meaning.specs.Asking.{answer_to, world_behind, thread_behind, acted_by, runs, step_of, stack_after, finished, finished_at, with_finished, with_added}
 
 -- what stands at a place, put there again, changes nothing
@@ -119,7 +119,7 @@ added_state now program mem threads world ended t dst thread items old new e r p
     let at : slice_get threads t ≡ Some old = there threads t old r found in
     let s : State = record { memory = mem; threads = threads; world = world; ended = ended } in
     let list : slice_set items t new ≡ slice_set threads t (finished dst 0 old) ++ thread ∷ [] =
-        ap (λ (xs : List Thread). slice_set xs t new) pushed ∙ set-append_left threads (thread ∷ []) t new inside ∙ ap (λ (x : Thread). slice_set threads t x ++ thread ∷ []) done in
+    ap (λ (xs : List Thread). slice_set xs t new) pushed ∙ set-append_left threads (thread ∷ []) t new inside ∙ ap (λ (x : Thread). slice_set threads t x ++ thread ∷ []) done in
     ap (λ (xs : List Thread). sourced program mem xs world ended) list
     ∙ sym (ap (λ (o : Option Thread). with_state program (with_added thread (finished_at dst 0 t o s))) at)
     ∙ ap (λ (v : Sourced). behind_added v t dst thread) e

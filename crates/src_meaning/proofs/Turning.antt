@@ -1,5 +1,5 @@
 -- A turn of a thread that runs, as the code takes it: decoded, and done.
-use Rattle.std.proofs.Common.{ℕ, ◌≡◌, Option, Some, None, true, refl, sym, ap, ◌∙◌, slice_get}
+use Rattle.std.proofs.Common.{ℕ, ◌≡◌, Option, Some, None, true, sym, ap, ◌∙◌, slice_get}
 use Rattle.std.specs.Option.{option_map}
 use Rattle.ir_core.specs.declared.types.Loc.{Loc}
 use Rattle.ir_core.specs.declared.instruction.Inst.{Inst}
@@ -13,7 +13,7 @@ use Rattle.src_meaning.specs.declared.sources.Outside.{Outside}
 use Rattle.src_meaning.specs.declared.sources.Outside.TheVariants.{Asks, Creates, Joins, Exits}
 use Rattle.src_meaning.specs.State.{State, Sourced, inst_at}
 use Rattle.src_meaning.specs.Step.{fetched, acted, turned}
-use Rattle.src_meaning.specs.Landing.{decoded_as, decoded}
+use Rattle.src_meaning.specs.Landing.{decoded_as}
 use Rattle.src_meaning.specs.Asking.{acted_by, runs, outside_of, action_for, decoded_at}
 
 fetched_as : (m : ModuleParts) (s : State) (t : ℕ) (stack : CallStack) (dst : Option Loc) (action : Action) (o : Option Inst) → option_map (decoded_as m stack.frame) o ≡ Some (dst, action) → acted m s t dst stack action ≡ fetched m s t stack o

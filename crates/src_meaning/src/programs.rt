@@ -36,7 +36,7 @@ impl<'a> Model for Program<'a> {
     ghost use Rattle.ir_core.specs.contracts.values.Init as init;
     ghost use Rattle.ir_core.specs.Module.{ModuleParts};
     ghost use Rattle.inst_meaning.specs.Accesses.{IsFitting};
-ghost use Rattle.inst_meaning.specs.Action.{callees_of};
+    ghost use Rattle.inst_meaning.specs.Action.{callees_of};
     ghost use Rattle.src_meaning.specs.Labels.{AreTables};
 
     ghost Value = { ModuleParts };

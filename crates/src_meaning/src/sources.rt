@@ -324,12 +324,7 @@ impl<'a> Source<'a> {
     }
 
     // A thread is added behind the others, and the call at which one stands is done.
-    fn add_thread(
-        &mut self,
-        t: Tid,
-        dst: Option<Loc>,
-        thread: Thread,
-    ) -> Result<(), AllocError>
+    fn add_thread(&mut self, t: Tid, dst: Option<Loc>, thread: Thread) -> Result<(), AllocError>
         requires pass { CanPassAt (slice_get self.old.state.threads t.0) }
         requires runs { runs (slice_get self.old.state.threads t.0) ≡ true }
         requires room { length self.old.state.threads < 64 }
