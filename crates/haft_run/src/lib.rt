@@ -20,7 +20,6 @@ mod printing;
 mod runs;
 mod schedules;
 mod state;
-mod turns;
 
 pub use building::built;
 pub use outcome::{Aborts, RunResult, Stop};
