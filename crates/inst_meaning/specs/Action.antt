@@ -8,9 +8,8 @@
 use Rattle.std.specs.Prelude.{ℕ, ◌+◌, ◌/◌, ◌%◌, ◌^◌, ◌==◌, nat_eq, nat_lt, Bool, true, false, List, [], ◌∷◌, map, length, Option, Some, None, Result, Ok, Err, if◌then◌else◌, unwrap_or}
 use Rattle.std.specs.List.{slice_index_or, position, range_with_len}
 use Rattle.std.specs.Map.{lookup}
-use Rattle.std.specs.Option.{option_map}
 use Rattle.ir_core.specs.declared.types.Width.{Width}
-use Rattle.ir_core.specs.declared.types.Width.TheVariants.{W1, W64}
+use Rattle.ir_core.specs.declared.types.Width.TheVariants.{W1}
 use Rattle.ir_core.specs.declared.types.Ty.{Ty}
 use Rattle.ir_core.specs.declared.types.Loc.{Loc}
 use Rattle.ir_core.specs.declared.types.Sym.{Sym}
@@ -24,7 +23,7 @@ use Rattle.ir_core.specs.declared.instruction.CastOp.TheVariants.{Zext, Sext, Tr
 use Rattle.ir_core.specs.declared.instruction.RmwOp.{RmwOp}
 use Rattle.ir_core.specs.declared.instruction.Inst.{Inst}
 use Rattle.ir_core.specs.declared.instruction.Inst.TheVariants as insts
-use Rattle.ir_core.specs.Module.{ModuleParts, FuncParts}
+use Rattle.ir_core.specs.Module.{ModuleParts}
 use Rattle.op_table.specs.declared.OpCause.{OpCause}
 use Rattle.op_table.specs.declared.OpCause.TheVariants as causes
 use Rattle.op_table.specs.Operators.{bits, binary, compares, converted}
@@ -42,9 +41,7 @@ use Rattle.inst_meaning.specs.declared.actions.Callee.TheVariants.{Defined, Outs
 use Rattle.inst_meaning.specs.declared.actions.Cause.{Cause}
 use Rattle.inst_meaning.specs.declared.actions.Cause.TheVariants.{Divide, Poison, Unreachable}
 use Rattle.inst_meaning.specs.declared.actions.Place.{Place}
-use Rattle.inst_meaning.specs.declared.actions.Update.{Update as Updates}
 use Rattle.inst_meaning.specs.declared.actions.Update.TheVariants.{Combine, Exchange}
-use Rattle.inst_meaning.specs.declared.actions.Request.{Request}
 use Rattle.inst_meaning.specs.declared.actions.Request.TheVariants.{Lock, Unlock, Put, Output, Allocate, Free, Argument}
 use Rattle.inst_meaning.specs.declared.actions.Action.{Action}
 use Rattle.inst_meaning.specs.declared.actions.Action.TheVariants.{Assign, Reserve, Read, Write, Update, Pass, Jump, Call, Ask, Create, Join, Exit, Return, Fault}
@@ -124,7 +121,7 @@ is_cast Inttoptr from to = bits to == 64
 abbrev pub conversion : LayoutParts → List (Option ℕ) → CastOp → Ty → Val → Ty → Action
 conversion l registers op from a to =
     on_width (width_of from) (λ v. on_width (width_of to) (λ w.
-        if is_cast op v w then on_word (word_at l registers v a) (λ x. Assign (converted op (bits v) (bits w) x)) else Fault Unreachable))
+    if is_cast op v w then on_word (word_at l registers v a) (λ x. Assign (converted op (bits v) (bits w) x)) else Fault Unreachable))
 
 -- ---- addresses and memory ('getelementptr', 'alloca', 'load', 'store', 'atomicrmw', 'cmpxchg' and 'extractvalue' Instruction)
 
@@ -153,7 +150,7 @@ combining l registers op ptr ty val =
 abbrev pub exchanging : LayoutParts → List (Option ℕ) → Val → Ty → Val → Val → Action
 exchanging l registers ptr ty expected desired =
     on_width (memory_width ty) (λ w. on_word (pointer_word l registers ptr) (λ address.
-        on_word (word_at l registers w expected) (λ x. on_word (word_at l registers w desired) (λ y. Update (place_at address w) (Exchange w x y)))))
+    on_word (word_at l registers w expected) (λ x. on_word (word_at l registers w desired) (λ y. Update (place_at address w) (Exchange w x y)))))
 
 -- the old word of what a `cmpxchg` gave, or the bit above it
 abbrev pub extracted : ℕ → Width → ℕ → ℕ

@@ -26,14 +26,10 @@ impl Update {
                 argument,
             } => rmw(op, width, old, argument),
             Update::Exchange {
-                expected, desired, ..
-            } => {
-                if old == expected {
-                    desired
-                } else {
-                    old
-                }
-            }
+                expected,
+                desired,
+                ..
+            } => { if old == expected { desired } else { old } }
         }
     }
 
@@ -43,7 +39,9 @@ impl Update {
     {
         match self {
             Update::Exchange {
-                width, expected, ..
+                width,
+                expected,
+                ..
             } if old == expected => u128::from(old) + (1 << bit_count(width)),
             _ => u128::from(old),
         }
@@ -100,7 +98,10 @@ impl Operands<'_> {
     {
         let action = match inst {
             Inst::Load {
-                ty, ptr, atomic, ..
+                ty,
+                ptr,
+                atomic,
+                ..
             } => self.load(ty, ptr, *atomic),
             Inst::Store {
                 ty,
@@ -109,10 +110,18 @@ impl Operands<'_> {
                 atomic,
             } => self.store(ty, val, ptr, *atomic),
             Inst::Rmw {
-                op, ptr, ty, val, ..
+                op,
+                ptr,
+                ty,
+                val,
+                ..
             } => self.combine(*op, ptr, ty, val),
             Inst::CmpXchg {
-                ptr, ty, old, new, ..
+                ptr,
+                ty,
+                old,
+                new,
+                ..
             } => self.exchange(ptr, ty, old, new),
             Inst::Call { callee, args, .. } => match self.callee(*callee) {
                 Callee::Outside(external) => self.ask(external, args.items()),

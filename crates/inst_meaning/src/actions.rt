@@ -7,7 +7,7 @@ use mem_image::Size;
 #[derive(Clone, Copy)]
 pub enum Callee {
     /// The function of the module with this number.
-    Defined(u32),
+    Defined(usize),
     /// A function outside the module.
     Outside(External),
     /// Nothing that can be called.
@@ -97,7 +97,10 @@ pub enum Action {
     /// Its result is the address of so many bytes of the stack.
     Reserve(u64),
     /// Its result is the word at a place.
-    Read { place: Place, atomic: bool },
+    Read {
+        place: Place,
+        atomic: bool,
+    },
     /// A word goes to a place.
     Write {
         place: Place,
@@ -105,19 +108,25 @@ pub enum Action {
         atomic: bool,
     },
     /// The word at a place is changed in one step.
-    Update { place: Place, update: Update },
+    Update {
+        place: Place,
+        update: Update,
+    },
     /// Nothing.
     Pass,
     /// To go on at a label.
     Jump(Loc),
     /// To call the function of the module with this number.
-    Call { function: u32, words: Seq<u64> },
+    Call {
+        function: usize,
+        words: Seq<u64>,
+    },
     /// Something of the world.
     Ask(Request),
     /// A new thread that runs a function with one argument. Its number goes to an address.
     Create {
         address: u64,
-        function: u32,
+        function: usize,
         argument: u64,
     },
     /// To wait for a thread's end.

@@ -39,7 +39,7 @@ pub fn callees_of(alloc: Global, m: &Module) -> Result<Vec<Callee>, AllocError>
     for number in (0..funcs.len()).rev() {
         let sym = funcs[number].sym().0 as usize;
         if sym < callees.len() {
-            callees[sym] = Callee::Defined(number as u32);
+            callees[sym] = Callee::Defined(number);
         }
     }
     Ok(callees)

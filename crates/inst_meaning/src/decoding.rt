@@ -285,7 +285,7 @@ impl Operands<'_> {
     }
 
     // The function that a value names.
-    fn named_function(&self, value: &Val) -> Option<u32>
+    fn named_function(&self, value: &Val) -> Option<usize>
         ensures { result ≡ named_function self.now.callees.now value.now }
     {
         let Val::Global(sym) = value else {
@@ -366,22 +366,72 @@ impl Operands<'_> {
         ensures fits { IfOk result IsFitting }
     {
         match inst {
-            Inst::Bin { op, flags, w, a, b, .. } => Ok(self.operate(*op, *flags, *w, a, b)),
+            Inst::Bin {
+                op,
+                flags,
+                w,
+                a,
+                b,
+                ..
+            } => Ok(self.operate(*op, *flags, *w, a, b)),
             Inst::Cmp { pred, ty, a, b, .. } => Ok(self.compare(*pred, ty, a, b)),
             Inst::Select { cond, ty, a, b, .. } => Ok(self.select(cond, ty, a, b)),
-            Inst::Cast { op, from, a, to, .. } => Ok(self.convert(*op, from, a, to)),
-            Inst::Gep { base, ptr, index, .. } => self.element(alloc, base, ptr, index.items()),
-            Inst::Extract { elem, pair, index, .. } => Ok(self.extract(elem, *pair, *index)),
+            Inst::Cast {
+                op,
+                from,
+                a,
+                to,
+                ..
+            } => Ok(self.convert(*op, from, a, to)),
+            Inst::Gep {
+                base,
+                ptr,
+                index,
+                ..
+            } => self.element(alloc, base, ptr, index.items()),
+            Inst::Extract {
+                elem,
+                pair,
+                index,
+                ..
+            } => Ok(self.extract(elem, *pair, *index)),
             Inst::Alloca { ty, .. } => Ok(Action::Reserve(size_in(self.layout, ty))),
-            Inst::Load { ty, ptr, atomic, .. } => Ok(self.load(ty, ptr, *atomic)),
-            Inst::Store { ty, val, ptr, atomic } => Ok(self.store(ty, val, ptr, *atomic)),
-            Inst::Rmw { op, ptr, ty, val, .. } => Ok(self.combine(*op, ptr, ty, val)),
-            Inst::CmpXchg { ptr, ty, old, new, .. } => Ok(self.exchange(ptr, ty, old, new)),
+            Inst::Load {
+                ty,
+                ptr,
+                atomic,
+                ..
+            } => Ok(self.load(ty, ptr, *atomic)),
+            Inst::Store {
+                ty,
+                val,
+                ptr,
+                atomic,
+            } => Ok(self.store(ty, val, ptr, *atomic)),
+            Inst::Rmw {
+                op,
+                ptr,
+                ty,
+                val,
+                ..
+            } => Ok(self.combine(*op, ptr, ty, val)),
+            Inst::CmpXchg {
+                ptr,
+                ty,
+                old,
+                new,
+                ..
+            } => Ok(self.exchange(ptr, ty, old, new)),
             Inst::Fence => Ok(Action::Pass),
             Inst::Call { callee, args, .. } => self.call(alloc, self.callee(*callee), args.items()),
             Inst::Br { to } => Ok(Action::Jump(*to)),
             Inst::CondBr { cond, yes, no } => Ok(self.branch(cond, *yes, *no)),
-            Inst::Switch { ty, on, default, cases } => Ok(self.switch(ty, on, *default, cases.items())),
+            Inst::Switch {
+                ty,
+                on,
+                default,
+                cases,
+            } => Ok(self.switch(ty, on, *default, cases.items())),
             Inst::Ret { ty, val } => Ok(self.give_back(ty, val)),
             Inst::Phi { .. } | Inst::Unreachable => Ok(Action::Fault(Cause::Unreachable)),
         }

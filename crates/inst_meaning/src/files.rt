@@ -1,5 +1,5 @@
 //! Register files.
-ghost use Rattle.std.specs.Prelude.{◌≡◌, IfOk, OnOk, OnErr, []};
+ghost use Rattle.std.specs.Prelude.{◌≡◌, ◌+◌, max, fold, IfOk, OnOk, OnErr, []};
 ghost use Rattle.ir_action.specs.Registers.{get};
 ghost use Rattle.inst_meaning.specs.Phis.{assigned, all_assigned};
 
@@ -22,14 +22,13 @@ impl Model for Registers {
     ghost view = { λ r. r.words.items };
 }
 
-// How many registers a file must have for these words.
-fn room_for(words: &[(Loc, u64)]) -> usize {
-    let mut room = 0;
+// How long a file of this length is once these words went to it.
+fn room_for(len: usize, words: &[(Loc, u64)]) -> usize
+    ensures { result ≡ fold (λ room word. max room (word.0.0 + 1)) len words.now }
+{
+    let mut room = len;
     for (at, _) in words {
-        let needed = (at.0 as usize) + 1;
-        if needed > room {
-            room = needed;
-        }
+        room = room.max(at.0 as usize + 1);
     }
     room
 }
@@ -74,10 +73,8 @@ impl Registers {
         ensures ok { OnOk result (self.new ≡ all_assigned words.now self.old) }
         ensures err { OnErr result (self.new ≡ self.old) }
     {
-        let room = room_for(words);
-        if room > self.words.len() {
-            self.words.resize(room, None)?;
-        }
+        let room = room_for(self.words.len(), words);
+        self.words.resize(room, None)?;
         for (at, word) in words {
             self.words[at.0 as usize] = Some(u128::from(*word));
         }

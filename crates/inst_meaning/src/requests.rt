@@ -83,11 +83,7 @@ impl World {
     }
 
     // The call is done, and its result is a word.
-    fn answer(
-        registers: &mut Registers,
-        dst: Option<Loc>,
-        word: u64,
-    ) -> Result<Reply, AllocError>
+    fn answer(registers: &mut Registers, dst: Option<Loc>, word: u64) -> Result<Reply, AllocError>
         ensures reply { IfOk result (λ reply. reply ≡ Answers word) }
         ensures registers { OnOk result (registers.new ≡ assigned dst word registers.old) }
         ensures unchanged { OnErr result (registers.new ≡ registers.old) }

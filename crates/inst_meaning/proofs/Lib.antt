@@ -1,0 +1,4 @@
+pub mod NamedCallees
+pub mod NoAccess
+pub mod Rooms
+pub mod Undone
