@@ -22,7 +22,6 @@ mod runs;
 mod schedules;
 mod source_report;
 mod state;
-mod turns;
 
 pub use building::built;
 pub use outcome::{Aborts, RunResult, Stop};

@@ -1,7 +1,7 @@
 use Rattle.std.proofs.Common.{arith}
-use Rattle.haft_run.proofs.Grouping.{added-same, added-other, added-none, run-le-length, empty-unless-some}
-use Rattle.haft_run.proofs.turns.add_turn.Goals as goal
-use Rattle.haft_run.proofs.turns.add_turn.Goals.{in-Some+else-eq, in_default}
+use Rattle.turn_runs.proofs.Grouping.{added-same, added-other, added-none, run-le-length, empty-unless-some}
+use Rattle.turn_runs.proofs.logs.add_turn.Goals as goal
+use Rattle.turn_runs.proofs.logs.add_turn.Goals.{in-Some+else-eq, in_default}
 
 pub overflow_add-last : goal.overflow_add-last
 overflow_add-last c = omega (arith, run-le-length c.args.runs.now.items _ _ (omega (arith, c.in-Some.ensures.item.3.0)) c.in-Some.ensures.item.1)

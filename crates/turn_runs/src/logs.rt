@@ -1,6 +1,6 @@
-//! The turns of the source run that a run stands for, kept as maximal runs.
+//! Turns in order, kept as maximal runs.
 ghost use Rattle.std.specs.Prelude.{◌≡◌, ◌+◌, ◌<◌, ◌^◌, ◌∷◌, [], ◌++◌, length, OnOk, OnErr};
-ghost use Rattle.haft_run.specs.Turns.{grouped, turns_of, added};
+ghost use Rattle.turn_runs.specs.Runs.{grouped, turns_of, added};
 
 use ir_core::{Seq, Tid, Turns};
 use std::alloc::{AllocError, Global};
@@ -14,7 +14,7 @@ pub struct TurnLog {
 
 impl Model for TurnLog {
     ghost use Rattle.std.specs.Prelude.{List, ℕ, ◌≡◌};
-    ghost use Rattle.haft_run.specs.Turns.{grouped, turns_of};
+    ghost use Rattle.turn_runs.specs.Runs.{grouped, turns_of};
 
     ghost Value = { List ℕ };
 
@@ -49,10 +49,11 @@ impl TurnLog {
         }
     }
 
-    /// Adds a turn of a thread.
+    /// Adds a turn of a thread. For want of memory nothing changes.
     pub fn push(&mut self, tid: Tid) -> Result<(), AllocError>
         requires { length self.old + 1 < 2 ^ 64 }
-        ensures { OnOk result (self.new ≡ self.old ++ tid.0 ∷ []) }
+        ensures ok { OnOk result (self.new ≡ self.old ++ tid.0 ∷ []) }
+        ensures err { OnErr result (self.new ≡ self.old) }
     {
         add_turn(&mut self.runs, tid)?;
         Ok(())

@@ -3,7 +3,7 @@ use Rattle.std.proofs.Common.{ℕ, zero, suc, ◌≡◌, ◌+◌, ◌<◌, ◌�
 use Rattle.std.proofs.lemmas.List.{length-replicate, append-nil}
 use Rattle.std.proofs.lemmas.Bool.{eqb-true, eqb-false, true≢false}
 use Rattle.ir_core.specs.declared.types.Tid.{Tid}
-use Rattle.haft_run.specs.Turns.{grouped, grouped_with, turns_of, added}
+use Rattle.turn_runs.specs.Runs.{grouped, grouped_with, turns_of, added}
 
 abbrev tid : ℕ → Tid
 tid t = record { 0 = t }
