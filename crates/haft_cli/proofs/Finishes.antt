@@ -26,7 +26,8 @@ use Rattle.haft_cli.specs.declared.work.Work.{Work}
 use Rattle.haft_cli.specs.declared.work.Work.TheVariants.{Report, Refused as RefusedWork}
 use Rattle.haft_cli.specs.declared.command.Refusal.{Refusal}
 use Rattle.haft_cli.specs.declared.command.Refusal.TheVariants.{LongFirst, LongSecond, TextWord, TextByte, Module, UnbuiltFirst, Schedule, UnbuiltSecond}
-use Rattle.haft_cli.specs.Command.{Checks, IsCheckReport, IsRunReport, IsWatchReport, IsRefused, IsTextRefused, result_on, run_report}
+use Rattle.haft_cli.specs.Command.{Checks, Runs, Watches, IsWithin, IsCheckReport, IsRunReport, IsWatchReport, IsRefused, IsTextRefused, result_on, run_report, watch_report}
+use Rattle.haft_cli.proofs.Files.{for_some}
 use Rattle.haft_cli.specs.Work.{IsRunOf, IsWatchOf, IsWork, AreTold, status_of, text_of}
 
 -- the report of the run, which tells of the source what it says
@@ -64,8 +65,7 @@ run_of_same m s other (Err error) e r = tt
 pub watch_of_same : {E : Type 0} (text : List ℕ) (m : ModuleParts) (s other : ScheduleParts) (result : Result Work E) → IsSchedule text s.args s.lines → IsSchedule text other.args other.lines → IfOk result (IsWatchOf m s) → IfOk result (IsWatchOf m other)
 watch_of_same text m s other result h k r =
     let same = same_meaning _ s.args other.args s.lines other.lines h.means k.means in
-    let equal : s ≡ other = cc in
-    subst (λ (parts : ScheduleParts). IfOk result (IsWatchOf m parts)) equal r
+    subst (λ (lines : List Entry). IfOk result (IsWatchOf m (record { args = other.args; lines = lines }))) same.1 (subst (λ (args : List ℕ). IfOk result (IsWatchOf m (record { args = args; lines = s.lines }))) same.0 r)
 
 -- a report that is known was written
 pub text-done : (status : Status) (work : Work) (old new : Option (List ℕ)) (rose : Type 0) (report : List ℕ)
@@ -122,7 +122,35 @@ not_check first second text UnbuiltFirst r x = let clash : Check ≡ Run = x.0 i
 not_check first second text (Schedule line) r x = absurd x.0
 not_check first second text UnbuiltSecond r x = let clash : Check ≡ Run = x.0 in absurd cc
 
--- so their work is the line of a refusal
+-- files that stand for a run, or for a watch, aren't refused
+module _ (left_first left_second : Option (List ℕ)) (first second : List ℕ) (m : ModuleParts) (s : ScheduleParts) (refusal : Refusal) (told_first : left_first ≡ Some first) (told_second : left_second ≡ Some second) (first_within : IsWithin first) (second_within : IsWithin second) where
+  as_told : (command : Command) → IsRefused command left_first left_second refusal → IsRefused command (Some first) (Some second) refusal
+  as_told command x =
+      subst (λ (file : Option (List ℕ)). IsRefused command (Some first) file refusal) told_second (subst (λ (file : Option (List ℕ)). IsRefused command file left_second refusal) told_first x)
+
+  pub run_not_refused : Runs first second m s → IsRefused Run left_first left_second refusal → ⊥
+  run_not_refused runs x = not_run first second (run_report m s) refusal (record {
+    m = m;
+    s = s;
+    within = (for_some IsWithin first first_within, for_some IsWithin second second_within);
+    checks = for_some (λ bytes. Checks bytes m) first (record { module_read = runs.module_read; accepted = runs.accepted });
+    built = runs.built;
+    schedule_read = for_some (λ bytes. IsSchedule bytes s.args s.lines) second runs.schedule_read;
+    upset_free = runs.upset_free;
+    report = refl;
+  }) (as_told Run x)
+
+  pub watch_not_refused : Watches first second m s → IsRefused Src left_first left_second refusal → ⊥
+  watch_not_refused watches x = not_watch first second (watch_report m s) refusal (record {
+    m = m;
+    s = s;
+    within = (for_some IsWithin first first_within, for_some IsWithin second second_within);
+    checks = for_some (λ bytes. Checks bytes m) first (record { module_read = watches.module_read; accepted = watches.accepted });
+    schedule_read = for_some (λ bytes. IsSchedule bytes s.args s.lines) second watches.schedule_read;
+    report = refl;
+  }) (as_told Src x)
+
+-- the work of files that are to be refused is the line of a refusal
 pub told_refused : (command : Command) (left : Which → Option (List ℕ)) (first second : List ℕ) (work : Work) (refusal : Refusal) → AreTold command left first second → IsWork command (left First) (left Second) work → IsRefused command (Some first) (Some second) refusal → status_of work ≡ Refused
 told_refused Check left first second (Report text) refusal told w x =
     absurd (not_check first second text.items refusal (subst (λ (file : Option (List ℕ)). IsCheckReport file text.items) told w) x)

@@ -9,7 +9,7 @@ use Rattle.haft_cli.specs.declared.command.Refusal.{Refusal}
 use Rattle.haft_cli.specs.declared.command.Refusal.TheVariants.{LongFirst, LongSecond, TextWord, TextByte, Module, UnbuiltFirst, Schedule, UnbuiltSecond}
 use Rattle.haft_cli.specs.declared.work.Work.{Work}
 use Rattle.haft_cli.specs.declared.work.Work.TheVariants.{Report, Refused}
-use Rattle.haft_cli.specs.Command.{IsWithin, AreWithin, IsReport, IsRefused, IsTextRefused, IsAdmitted, IsUnbuiltText, ReadsSecond, Checks, Runs, Watches, limit}
+use Rattle.haft_cli.specs.Command.{IsWithin, AreWithin, IsReport, IsRefused, IsTextRefused, ReadsSecond, Checks, Runs, Watches, limit}
 use Rattle.haft_cli.specs.declared.command.Command.{Command}
 use Rattle.haft_cli.specs.declared.command.Command.TheVariants.{Check, Run, Src}
 use Rattle.haft_cli.specs.Work.{IsWork, AreWhole, Holds}
