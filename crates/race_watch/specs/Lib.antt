@@ -1,1 +1,4 @@
+pub mod Pairs
+pub mod Tables
 pub mod Watching
+pub mod Watchers

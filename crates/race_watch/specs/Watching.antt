@@ -10,7 +10,7 @@ use Rattle.sched_file.specs.Schedule.{ScheduleParts}
 use Rattle.sched_file.specs.Events.{Happening, TurnOf, AbortOf, UpsetBy, events_of}
 use Rattle.turn_runs.specs.Runs.{grouped}
 use Rattle.src_meaning.specs.declared.state.Step.{Step}
-use Rattle.src_meaning.specs.declared.state.Step.TheVariants.{Went, Waits, Idle, Undefined as IsUndefined, Ended}
+use Rattle.src_meaning.specs.declared.state.Step.TheVariants.{Went, Undefined as IsUndefined, Ended}
 use Rattle.src_meaning.specs.State.{State, opening}
 use Rattle.src_meaning.specs.Step.{step}
 use Rattle.src_meaning.specs.Races.{race_of}

@@ -1,0 +1,4 @@
+pub mod FirstPairs
+pub mod Comparisons
+pub mod Following
+pub mod Turning
