@@ -1,7 +1,6 @@
 -- The report of a watched run of the source: its outputs, the stop and the turns.
 use Rattle.std.specs.Prelude.{ℕ, List, ◌++◌, codes, decimal}
 use Rattle.std.specs.List.{flat_map}
-use Rattle.ir_core.specs.declared.types.Tid.{Tid}
 use Rattle.inst_meaning.specs.declared.actions.Cause.{Cause}
 use Rattle.inst_meaning.specs.declared.actions.Cause.TheVariants.{Divide, Poison, Access, Stack, Depth, Unlock, Join, Unreachable}
 use Rattle.race_watch.specs.declared.outcome.SrcStop.{SrcStop}

@@ -4,6 +4,8 @@ ghost use Rattle.haft_run.specs.SourceReport.{cause_word, src_stop_line, src_rep
 
 use crate::printing::{push_number, push_outs, push_source};
 use inst_meaning::Cause;
+use ir_core::Tid;
+use itoa::Buffer;
 use race_watch::{SrcStop, WatchResult};
 use std::alloc::{AllocError, Global};
 
@@ -23,14 +25,16 @@ fn cause_word(cause: Cause) -> &'static [u8]
     }
 }
 
-/// Adds how many turns there were, and a thread.
-fn push_turn(text: &mut Vec<u8>, n: u64, tid: u32) -> Result<(), AllocError>
-    ensures { OnOk result (text.new.items ≡ text.old.items ++ decimal n ++ codes " " ++ decimal tid ++ codes " ") }
+/// Adds how many turns there were, a thread, and what ends the line.
+fn push_turn(text: &mut Vec<u8>, n: u64, tid: Tid, last: &[u8]) -> Result<(), AllocError>
+    ensures { OnOk result (text.new.items ≡ text.old.items ++ decimal n ++ codes " " ++ decimal tid.0 ++ codes " " ++ last.now ++ codes "\n") }
 {
     push_number(text, n)?;
     text.extend_from_slice(b" ")?;
-    push_number(text, u64::from(tid))?;
-    text.extend_from_slice(b" ")
+    push_number(text, u64::from(tid.0))?;
+    text.extend_from_slice(b" ")?;
+    text.extend_from_slice(last)?;
+    text.extend_from_slice(b"\n")
 }
 
 /// Adds the line of the stop.
@@ -41,20 +45,19 @@ fn push_stop(text: &mut Vec<u8>, stop: SrcStop) -> Result<(), AllocError>
         SrcStop::End(code) => {
             text.extend_from_slice(b"stop end ")?;
             push_number(text, u64::from(code))?;
+            text.extend_from_slice(b"\n")
         }
-        SrcStop::Bound => text.extend_from_slice(b"stop bound")?,
+        SrcStop::Bound => text.extend_from_slice(b"stop bound\n"),
         SrcStop::Undefined { n, tid, cause } => {
             text.extend_from_slice(b"stop undefined ")?;
-            push_turn(text, n, tid.0)?;
-            text.extend_from_slice(cause_word(cause))?;
+            push_turn(text, n, tid, cause_word(cause))
         }
         SrcStop::Race { n, t, u } => {
+            let mut buffer = Buffer::new();
             text.extend_from_slice(b"stop race ")?;
-            push_turn(text, n, t.0)?;
-            push_number(text, u64::from(u.0))?;
+            push_turn(text, n, t, buffer.format(u.0).as_bytes())
         }
     }
-    text.extend_from_slice(b"\n")
 }
 
 /// The report of a watched run: a line for each output, then the stop and the turns.

@@ -35,6 +35,11 @@ abbrev pub Fits : Updates → ℕ → Type 0
 Fits (Combine op w argument) old = (old < 2 ^ bits w) × (argument < 2 ^ bits w)
 Fits (Exchange w expected desired) old = (old < 2 ^ bits w) × (desired < 2 ^ bits w)
 
+-- the word has the width of an update's words
+abbrev pub IsWordOf : Updates → ℕ → Type 0
+IsWordOf (Combine op w argument) n = n < 2 ^ bits w
+IsWordOf (Exchange w expected desired) n = n < 2 ^ bits w
+
 -- the words of an action that writes have as many bits as its place
 abbrev pub IsAt : Place → Width → Type 0
 IsAt place w = bits w ≡ 8 * bytes place.size

@@ -2,7 +2,7 @@
 ghost use Rattle.std.specs.Prelude.{◌≡◌, ◌<◌, ◌^◌, ◌*◌};
 ghost use Rattle.op_table.specs.Operators.{bits};
 ghost use Rattle.mem_image.specs.Accesses.{bytes};
-ghost use Rattle.inst_meaning.specs.Accesses.{updated, found, access_at, access_of, clash};
+ghost use Rattle.inst_meaning.specs.Accesses.{IsWordOf, updated, found, access_at, access_of, clash};
 ghost use Rattle.inst_meaning.specs.Action.{action_of};
 ghost use Rattle.inst_meaning.specs.Accesses.{Fits};
 
@@ -17,7 +17,8 @@ impl Update {
     /// The word that stands there, once this one did.
     pub fn updated(self, old: u64) -> u64
         requires { Fits self old }
-        ensures { result ≡ updated self old }
+        ensures word { result ≡ updated self old }
+        ensures below { IsWordOf self result }
     {
         match self {
             Update::Combine {

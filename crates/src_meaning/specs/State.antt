@@ -3,10 +3,9 @@
 -- Choices: threads are a list by number, also where there is one; a thread that isn't in the list was never made. A thread has a
 -- stack of frames, of which the last entered runs, or has returned from its function and ends at its next turn, or has ended.
 -- A caller's place lies past its call already. What stands in stack regions and in the heap from the start is 0.
-use Rattle.std.specs.Prelude.{ℕ, ◌+◌, ◌*◌, Bool, false, List, [], ◌∷◌, map, Option, Some, None, slice_get, unwrap_or, codes}
+use Rattle.std.specs.Prelude.{ℕ, ◌+◌, ◌*◌, Bool, false, List, [], ◌∷◌, map, Option, None, slice_get, unwrap_or}
 use Rattle.std.specs.List.{zip, position}
-use Rattle.std.specs.Option.{option_map_or, option_and_then}
-use Rattle.std.specs.Str.{bytes_eq}
+use Rattle.std.specs.Option.{option_map_or}
 use Rattle.ir_core.specs.declared.types.Loc.{Loc}
 use Rattle.ir_core.specs.declared.instruction.Inst.{Inst}
 use Rattle.ir_core.specs.declared.instruction.Block.{Block}
@@ -18,7 +17,6 @@ use Rattle.mem_image.specs.Opening.{opening as opening_memory}
 use Rattle.inst_meaning.specs.Phis.{all_assigned}
 use Rattle.inst_meaning.specs.World.{WorldParts, opening_world}
 use Rattle.src_meaning.specs.declared.state.Frame.{Frame}
-use Rattle.src_meaning.specs.declared.state.CallStack.{CallStack}
 use Rattle.src_meaning.specs.declared.state.Thread.{Thread}
 use Rattle.src_meaning.specs.declared.state.Thread.TheVariants.{Running}
 

@@ -15,14 +15,14 @@ use Rattle.ir_layout.specs.declared.spans.Span.{Span}
 use Rattle.ir_layout.specs.Memory.{LayoutParts, layout_of, is_valid, thread_limit}
 use Rattle.ir_flow.specs.Edges.{number_of}
 use Rattle.mem_image.specs.Accesses.{bytes}
-use Rattle.mem_image.specs.Bytes.{Memory, poke}
+use Rattle.mem_image.specs.Bytes.{poke}
 use Rattle.inst_meaning.specs.declared.actions.Cause.{Cause}
 use Rattle.inst_meaning.specs.declared.actions.Cause.TheVariants.{Access, Stack, Depth, Join as JoinCause, Unreachable}
 use Rattle.inst_meaning.specs.declared.actions.Place.{Place}
 use Rattle.inst_meaning.specs.declared.actions.Reply.{Reply}
 use Rattle.inst_meaning.specs.declared.actions.Reply.TheVariants.{Answers, Waits as MustWait, Refuses}
 use Rattle.inst_meaning.specs.declared.actions.Action.{Action}
-use Rattle.inst_meaning.specs.declared.actions.Action.TheVariants.{Assign, Reserve, Read, Write, Update, Pass, Jump, Call, Ask, Create, Join, Exit, Return, Fault}
+use Rattle.inst_meaning.specs.declared.actions.Action.TheVariants.{Assign, Reserve, Read, Write, Update, Jump, Call, Ask, Create, Join, Exit, Return, Fault}
 use Rattle.inst_meaning.specs.Action.{action_of, callees_of, destination}
 use Rattle.inst_meaning.specs.Accesses.{found, word_read, memory_after}
 use Rattle.inst_meaning.specs.Phis.{phi_count, phis_of, phi_words, assigned, all_assigned}

@@ -1,5 +1,5 @@
 //! The frames that wait for a function to return.
-ghost use Rattle.std.specs.Prelude.{◌≡◌, ◌∷◌, [], None, OnOk, OnErr, IfSome, length};
+ghost use Rattle.std.specs.Prelude.{◌≡◌, ◌∷◌, [], true, false, OnOk, OnErr, length};
 ghost use Rattle.src_meaning.specs.Frames.{first_resumed};
 
 use crate::Frame;

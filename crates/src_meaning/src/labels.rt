@@ -1,5 +1,5 @@
 //! The blocks that labels name.
-ghost use Rattle.std.specs.Prelude.{◌≡◌, IfOk, OnOk};
+ghost use Rattle.std.specs.Prelude.{◌≡◌, [], slice_index_or, IfOk, OnOk};
 ghost use Rattle.ir_action.specs.Registers.{put};
 ghost use Rattle.ir_flow.specs.Edges.{number_of};
 ghost use Rattle.src_meaning.specs.Labels.{IsTable, AreTables, named_in};
@@ -12,7 +12,7 @@ use std::marker::Model;
 /// The numbers of a function's blocks by their labels. Contracts see a list by label.
 #[derive(Drop)]
 struct LabelTable {
-    numbers: Vec<Option<u32>>,
+    numbers: Vec<Option<usize>>,
 }
 
 impl Model for LabelTable {
@@ -39,7 +39,7 @@ impl Model for Labels {
 
 impl LabelTable {
     // The label names the block with this number.
-    fn set(&mut self, label: Loc, number: u32) -> Result<(), AllocError>
+    fn set(&mut self, label: Loc, number: usize) -> Result<(), AllocError>
         ensures { OnOk result (self.new ≡ put self.old label.0 number) }
     {
         let at = label.0 as usize;
@@ -58,7 +58,7 @@ impl LabelTable {
             numbers: Vec::new(alloc),
         };
         for (number, block) in blocks.iter().enumerate() {
-            table.set(block.label, number as u32)?;
+            table.set(block.label, number)?;
         }
         Ok(table)
     }
@@ -77,10 +77,10 @@ impl Labels {
     }
 
     /// The number of the block that a label of a function names.
-    pub(crate) fn number(&self, function: u32, label: Loc) -> Option<u32>
+    pub(crate) fn number(&self, function: usize, label: Loc) -> Option<usize>
         ensures { result ≡ named_in (slice_index_or self.now function []) label }
     {
-        let table = self.tables.get(function as usize)?;
+        let table = self.tables.get(function)?;
         *table.numbers.get(label.0 as usize)?
     }
 }

@@ -1,5 +1,5 @@
 //! Local actions: what changes a thread and memory alone.
-ghost use Rattle.std.specs.Prelude.{◌≡◌, ◌+◌, ◌<◌, ◌^◌, ◌*◌, nat_le, nat_lt, suc, ◌∷◌, None, IfOk, OnErr, unwrap_or};
+ghost use Rattle.std.specs.Prelude.{◌≡◌, ◌+◌, ◌<◌, ◌^◌, ◌*◌, nat_le, nat_lt, suc, ◌∷◌, None, IfOk, OnOk, OnErr, unwrap_or};
 ghost use Rattle.std.specs.Option.{is_some};
 ghost use Rattle.mem_image.specs.Accesses.{bytes};
 ghost use Rattle.mem_image.specs.Bytes.{peek, poke};
@@ -152,7 +152,7 @@ impl CallStack {
         alloc: Global,
         program: &Program<'_>,
         dst: Option<Loc>,
-        function: u32,
+        function: usize,
         words: &[u64],
     ) -> Result<Local, AllocError>
         requires { self.old.frame.index + 1 < 2 ^ 64 }

@@ -1,20 +1,23 @@
 //! What a machine keeps of its program.
-ghost use Rattle.std.specs.Prelude.{◌≡◌, ◌+◌, ◌<◌, ◌^◌, Some, None, true, false, IfOk, OnSome, map};
+ghost use Rattle.std.specs.Prelude.{◌≡◌, ◌+◌, ◌<◌, ◌^◌, IfOk, IfSome, OnOk, OnSome, map};
+ghost use Rattle.std.specs.List.{zip};
 ghost use Rattle.std.specs.Option.{option_map, option_copied};
 ghost use Rattle.ir_layout.specs.Memory.{layout_of};
+ghost use Rattle.inst_meaning.specs.Accesses.{IsFitting};
 ghost use Rattle.inst_meaning.specs.Action.{callees_of};
 ghost use Rattle.inst_meaning.specs.Phis.{all_assigned};
 ghost use Rattle.src_meaning.specs.State.{blocks_at, inst_at, params_at, entry_frame, new_thread, main_of};
 ghost use Rattle.src_meaning.specs.Step.{jumped};
+ghost use Rattle.ir_layout.specs.Limits.{name_at};
 ghost use Rattle.ir_check.specs.Functions.{is_main};
-ghost use Rattle.src_meaning.specs.Landing.{landed_at};
+ghost use Rattle.src_meaning.specs.Landing.{landed_at, decoded};
 
 use crate::labels::Labels;
 use crate::moves::stack_start;
 use crate::{CallStack, Callers, Frame, Thread};
-use inst_meaning::{Callee, Operands, Registers, callees_of, phi_count};
+use inst_meaning::{Action, Callee, Operands, Registers, callees_of, destination, phi_count};
 use ir_check::Accepted;
-use ir_core::{Block, Func, Inst, Loc, Module, Ty, Width};
+use ir_core::{Block, Func, Inst, Loc, Module, Sym, Ty, Width};
 use std::alloc::{AllocError, Global};
 use std::marker::Model;
 
@@ -32,6 +35,7 @@ impl<'a> Model for Program<'a> {
     ghost use Rattle.ir_core.specs.contracts.types.Ty as ty;
     ghost use Rattle.ir_core.specs.contracts.values.Init as init;
     ghost use Rattle.ir_core.specs.Module.{ModuleParts};
+    ghost use Rattle.inst_meaning.specs.Accesses.{IsFitting};
     ghost use Rattle.inst_meaning.specs.Action.{callees_of};
     ghost use Rattle.src_meaning.specs.Labels.{AreTables};
 
@@ -79,10 +83,10 @@ impl<'a> Program<'a> {
     }
 
     // The blocks of a function, and none where there is no such function.
-    fn blocks(&self, function: u32) -> &[Block]
+    fn blocks(&self, function: usize) -> &[Block]
         ensures { result.now ≡ blocks_at self.now.funcs function }
     {
-        match self.accepted.module().funcs().get(function as usize) {
+        match self.accepted.module().funcs().get(function) {
             Some(f) => f.blocks(),
             None => &[],
         }
@@ -93,25 +97,40 @@ impl<'a> Program<'a> {
         ensures found { option_copied result ≡ inst_at self.now frame.now }
         ensures within { OnSome result (frame.now.index + 1 < 2 ^ 64) }
     {
-        let block = self.blocks(frame.function).get(frame.block as usize)?;
+        let block = self.blocks(frame.function).get(frame.block)?;
         block.insts.items().get(frame.index)
+    }
+
+    /// What the instruction at a frame's place asks for, and the register that takes its result.
+    pub(crate) fn decode(
+        &self,
+        alloc: Global,
+        frame: &Frame,
+    ) -> Result<Option<(Option<Loc>, Action)>, AllocError>
+        ensures decoded { IfOk result (λ found. found ≡ decoded self.now frame.now) }
+        ensures within { IfOk result (λ found. OnSome found (frame.now.index + 1 < 2 ^ 64)) }
+        ensures fits { IfOk result (λ found. IfSome found (λ each. IsFitting each.1)) }
+    {
+        let Some(inst) = self.inst(frame) else {
+            return Ok(None);
+        };
+        let action = self.operands(&frame.registers).action(alloc, inst)?;
+        Ok(Some((destination(inst), action)))
     }
 
     /// A function is entered with these words.
     pub(crate) fn enter(
         &self,
         alloc: Global,
-        function: u32,
+        function: usize,
         words: &[u64],
         mark: u64,
     ) -> Result<Frame, AllocError>
         ensures { IfOk result (λ frame. frame ≡ entry_frame self.now function words.now mark) }
     {
         let mut registers = Registers::with_room(alloc, self.room(function))?;
-        if let Some(f) = self.accepted.module().funcs().get(function as usize) {
-            for ((_, at), word) in f.params().iter().zip(words) {
-                registers.assign(Some(*at), u128::from(*word))?;
-            }
+        if let Some(f) = self.accepted.module().funcs().get(function) {
+            assign_params(&mut registers, f.params(), words)?;
         }
         Ok(Frame {
             function,
@@ -124,8 +143,8 @@ impl<'a> Program<'a> {
     }
 
     // How many registers a function has.
-    fn room(&self, function: u32) -> u32 {
-        match self.accepted.module().funcs().get(function as usize) {
+    fn room(&self, function: usize) -> u32 {
+        match self.accepted.module().funcs().get(function) {
             Some(f) => f.loc_count(),
             None => 0,
         }
@@ -138,17 +157,17 @@ impl<'a> Program<'a> {
         frame: &Frame,
         label: Loc,
         words: &mut Vec<(Loc, u64)>,
-    ) -> Result<Option<(u32, usize)>, AllocError>
+    ) -> Result<Option<(usize, usize)>, AllocError>
         ensures { IfOk result (λ place. jumped self.now frame.now label ≡ option_map (landed_at frame.now words.new.items) place) }
     {
         let blocks = self.blocks(frame.function);
-        let Some(from) = blocks.get(frame.block as usize) else {
+        let Some(from) = blocks.get(frame.block) else {
             return Ok(None);
         };
         let Some(number) = self.labels.number(frame.function, label) else {
             return Ok(None);
         };
-        let Some(block) = blocks.get(number as usize) else {
+        let Some(block) = blocks.get(number) else {
             return Ok(None);
         };
         let body = block.insts.items();
@@ -162,16 +181,11 @@ impl<'a> Program<'a> {
     }
 
     /// The number of `main`.
-    pub(crate) fn main(&self) -> u32
+    pub(crate) fn main(&self) -> usize
         ensures { result ≡ main_of self.now }
     {
         let m = self.accepted.module();
-        for (number, f) in m.funcs().iter().enumerate() {
-            if is_main(m, f) {
-                return number as u32;
-            }
-        }
-        0
+        m.funcs().iter().position(|f| is_main(m, f)).unwrap_or(0)
     }
 
     /// A new thread in a function.
@@ -179,7 +193,7 @@ impl<'a> Program<'a> {
         &self,
         alloc: Global,
         t: u32,
-        function: u32,
+        function: usize,
         words: &[u64],
     ) -> Result<Thread, AllocError>
         requires { t < 64 }
@@ -195,10 +209,36 @@ impl<'a> Program<'a> {
     }
 }
 
+// The parameters take the words, one after another.
+fn assign_params(
+    registers: &mut Registers,
+    params: &[(Ty, Loc)],
+    words: &[u64],
+) -> Result<(), AllocError>
+    ensures { OnOk result (registers.new ≡ all_assigned (zip (map (λ param. param.1) params.now) words.now) registers.old) }
+{
+    for ((_, at), word) in params.iter().zip(words) {
+        registers.assign(Some(*at), u128::from(*word))?;
+    }
+    Ok(())
+}
+
+// The bytes of an `@` name, and none where the module has none of that number.
+fn sym_name(m: &Module, sym: Sym) -> &[u8]
+    ensures { result.now ≡ name_at m.now.syms sym.0 }
+{
+    if sym.0 < m.sym_count() {
+        m.sym_name(sym)
+    } else {
+        b""
+    }
+}
+
 // Whether a function is `i32 @main()`.
 fn is_main(m: &Module, f: &Func) -> bool
     ensures { result ≡ is_main m.now f.now }
 {
-    let named = f.sym().0 < m.sym_count() && m.sym_name(f.sym()) == b"main".as_slice();
-    named && matches!(f.ret(), Ty::Int(Width::W32)) && f.params().is_empty()
+    sym_name(m, f.sym()) == b"main".as_slice()
+        && matches!(f.ret(), Ty::Int(Width::W32))
+        && f.params().is_empty()
 }

@@ -7,8 +7,8 @@ use ir_core::Loc;
 /// called. A place is the numbers of a function and of a block, and an index among the block's instructions.
 #[derive(Drop)]
 pub struct Frame {
-    pub function: u32,
-    pub block: u32,
+    pub function: usize,
+    pub block: usize,
     pub index: usize,
     pub registers: Registers,
     pub mark: u64,

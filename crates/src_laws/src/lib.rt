@@ -1,0 +1,6 @@
+//! Laws of the source machine (`src_meaning`), which proofs over it stand on. The functions do nothing; their clauses are the laws.
+#![tactic(auto)]
+
+mod laws;
+
+pub use laws::{actions_are_local, steps_that_do_nothing};
