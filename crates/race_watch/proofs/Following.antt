@@ -8,7 +8,7 @@ use Rattle.ir_core.specs.Module.{ModuleParts}
 use Rattle.inst_meaning.specs.declared.actions.Access.{Access}
 use Rattle.src_meaning.specs.State.{State}
 use Rattle.src_meaning.specs.Races.{next_access, clash_of, is_race, pairs_of, race_of}
-use Rattle.src_meaning.proofs.Others.{Moved, next_access-moved}
+use Rattle.race_watch.proofs.Others.{Moved, next_access-moved}
 use Rattle.race_watch.specs.Tables.{access_at, clashes_in, race_in, OthersAreApart, AreAccesses}
 use Rattle.race_watch.proofs.FirstPairs.{find-same, find-lacks}
 

@@ -1,4 +1,5 @@
-pub mod FirstPairs
+mod Others
 pub mod Comparisons
+pub mod FirstPairs
 pub mod Following
 pub mod Turning

@@ -7,7 +7,7 @@ use Rattle.src_meaning.specs.declared.state.Step.TheVariants.{Went, Waits, Idle,
 use Rattle.src_meaning.specs.State.{State, Sourced}
 use Rattle.src_meaning.specs.Step.{step}
 use Rattle.src_meaning.specs.Races.{race_of}
-use Rattle.src_meaning.proofs.Others.{step-moved, step-waits, step-idle, step-undefined}
+use Rattle.race_watch.proofs.Others.{step-moved, step-waits, step-idle, step-undefined}
 use Rattle.race_watch.specs.declared.table.Table.{Table}
 use Rattle.race_watch.specs.declared.outcome.SrcStop.TheVariants as stops
 use Rattle.race_watch.specs.Tables.{IsTable}

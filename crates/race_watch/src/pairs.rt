@@ -1,5 +1,5 @@
 //! Races in one state.
-ghost use Rattle.std.specs.Prelude.{◌≡◌, ◌≤◌, length};
+ghost use Rattle.std.specs.Prelude.{◌≡◌};
 ghost use Rattle.std.specs.Option.{option_map};
 ghost use Rattle.src_meaning.specs.Races.{clash_of, race_of};
 ghost use Rattle.race_watch.specs.Pairs.{numbers_of};
@@ -21,7 +21,6 @@ pub(crate) fn clash(a: Option<Access>, b: Option<Access>) -> bool
 /// The first pair of threads whose next accesses overlap, where at least one writes and not both are atomic; in order of the first
 /// and then of the second. `None` exactly where no two threads race. It takes no memory.
 pub fn race(s: &Source<'_>) -> Option<(Tid, Tid)>
-    requires { length s.now.state.threads ≤ 64 }
     ensures { option_map numbers_of result ≡ race_of s.now.program s.now.state }
 {
     let made = s.made() as u32;

@@ -1,6 +1,6 @@
 use Rattle.std.proofs.Common.{subst, sym, ◌∙◌, arith}
 use Rattle.race_watch.proofs.Following.{Followed, followed, apart, race_in-state}
-use Rattle.src_meaning.proofs.Others.{Moved, step-moved}
+use Rattle.race_watch.proofs.Others.{Moved, step-moved}
 use Rattle.race_watch.proofs.table.Table.follow.Goals as goal
 
 pub returns-then-made-len : goal.returns-then-made-len
