@@ -1,5 +1,5 @@
 mod Others
-pub mod Comparisons
 pub mod FirstPairs
+pub mod Comparisons
 pub mod Following
 pub mod Turning

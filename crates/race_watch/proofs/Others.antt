@@ -1,16 +1,14 @@
 -- What a step leaves of the other threads.
-use Rattle.std.proofs.Common.{ℕ, zero, suc, ◌≡◌, ◌+◌, ◌<◌, ◌≤◌, Bool, true, false, nat_lt, List, [], ◌∷◌, ◌++◌, length, length-append, Option, Some, None, slice_get, slice_set, refl, ap, sym, ◌∙◌, subst, arith, ltb-true}
+use Rattle.std.proofs.Common.{ℕ, zero, suc, ◌≡◌, ◌<◌, Bool, true, false, List, [], ◌∷◌, ◌++◌, length, Option, Some, None, slice_get, slice_set, refl, ap, ◌∙◌, subst, arith}
 use Rattle.std.proofs.Math.ListN.{length-set}
 use Rattle.ir_core.specs.declared.types.Loc.{Loc}
 use Rattle.ir_core.specs.declared.instruction.Inst.{Inst}
 use Rattle.ir_core.specs.Module.{ModuleParts}
-use Rattle.ir_layout.specs.Memory.{thread_limit, is_valid}
 use Rattle.inst_meaning.specs.declared.actions.Cause.{Cause}
-use Rattle.inst_meaning.specs.declared.actions.Cause.TheVariants.{Join as JoinCause}
 use Rattle.inst_meaning.specs.declared.actions.Reply.{Reply}
 use Rattle.inst_meaning.specs.declared.actions.Reply.TheVariants.{Answers, Waits as MustWait, Refuses}
 use Rattle.inst_meaning.specs.declared.actions.Action.{Action}
-use Rattle.inst_meaning.specs.declared.actions.Action.TheVariants.{Assign, Reserve, Read, Write, Update, Pass, Jump, Call, Ask, Create, Join, Exit, Return, Fault}
+use Rattle.inst_meaning.specs.declared.actions.Action.TheVariants.{Ask, Create, Join, Exit}
 use Rattle.inst_meaning.specs.Action.{destination}
 use Rattle.inst_meaning.specs.World.{WorldParts, asked_of}
 use Rattle.src_meaning.specs.declared.state.CallStack.{CallStack}
@@ -34,14 +32,13 @@ slice_get-append [] ys k h = absurd (omega arith)
 slice_get-append (x ∷ xs) ys zero h = refl
 slice_get-append (x ∷ xs) ys (suc k) h = slice_get-append xs ys k (omega arith)
 
--- thread t has moved: the others stand as they stood, and one may have been made
+-- thread t has moved: the others stand as they stood
 pub record Moved (s : State) (t : ℕ) (after : State) : Type 0 where
   pub ended : after.ended ≡ s.ended
   pub others : (u : ℕ) → (u ≡ t → ⊥) → u < length s.threads → slice_get after.threads u ≡ slice_get s.threads u
-  pub limited : length s.threads ≤ thread_limit → length after.threads ≤ thread_limit
 
 -- what a step leaves, by its answer
-abbrev pub Leaves : State → ℕ → State → Step → Type 0
+abbrev Leaves : State → ℕ → State → Step → Type 0
 Leaves s t after Went = Moved s t after
 Leaves s t after (Ended code) = Unit {0}
 Leaves s t after other = after ≡ s
@@ -50,14 +47,12 @@ moved-set : (s after : State) (t : ℕ) (thread : Thread) → after.threads ≡ 
 moved-set s after t thread e k = record {
   ended = k;
   others = λ u h _. ap (λ threads. slice_get threads u) e ∙ slice_get-set_other s.threads t thread u h;
-  limited = λ h. omega (arith, ap (λ (threads : List Thread). length threads) e, length-set s.threads t thread);
 }
 
-moved-add : (s after : State) (t : ℕ) (thread new : Thread) → nat_lt (length s.threads) thread_limit ≡ true → after.threads ≡ slice_set s.threads t thread ++ new ∷ [] → after.ended ≡ s.ended → Moved s t after
-moved-add s after t thread new room e k = record {
+moved-add : (s after : State) (t : ℕ) (thread new : Thread) → after.threads ≡ slice_set s.threads t thread ++ new ∷ [] → after.ended ≡ s.ended → Moved s t after
+moved-add s after t thread new e k = record {
   ended = k;
   others = λ u h within. ap (λ threads. slice_get threads u) e ∙ slice_get-append (slice_set s.threads t thread) (new ∷ []) u (omega (arith, length-set s.threads t thread)) ∙ slice_get-set_other s.threads t thread u h;
-  limited = λ h. omega (arith, ltb-true _ _ room, ap (λ (threads : List Thread). length threads) e, length-set s.threads t thread, length-append (slice_set s.threads t thread) (new ∷ []));
 }
 
 went_unless-leaves : (o : Option Cause) (s after : State) (t : ℕ) → Moved s t after → Leaves s t (went_unless o s after).0 (went_unless o s after).1
@@ -72,10 +67,10 @@ replied-leaves s t dst stack world (Answers n) = moved-set s _ t _ refl refl
 replied-leaves s t dst stack world MustWait = refl
 replied-leaves s t dst stack world (Refuses cause) = refl
 
-created-leaves : (m : ModuleParts) (s : State) (t : ℕ) (dst : Option Loc) (stack : CallStack) (address n argument : ℕ) (room valid : Bool) → nat_lt (length s.threads) thread_limit ≡ room → Leaves s t (created m s t dst stack address n argument room valid).0 (created m s t dst stack address n argument room valid).1
-created-leaves m s t dst stack address n argument true true e = moved-add s _ t _ _ e refl refl
-created-leaves m s t dst stack address n argument true false e = refl
-created-leaves m s t dst stack address n argument false valid e = moved-set s _ t _ refl refl
+created-leaves : (m : ModuleParts) (s : State) (t : ℕ) (dst : Option Loc) (stack : CallStack) (address n argument : ℕ) (room valid : Bool) → Leaves s t (created m s t dst stack address n argument room valid).0 (created m s t dst stack address n argument room valid).1
+created-leaves m s t dst stack address n argument true true = moved-add s _ t _ _ refl refl
+created-leaves m s t dst stack address n argument true false = refl
+created-leaves m s t dst stack address n argument false valid = moved-set s _ t _ refl refl
 
 joined-leaves : (s : State) (t : ℕ) (dst : Option Loc) (stack : CallStack) (thread : Option Thread) → Leaves s t (joined s t dst stack thread).0 (joined s t dst stack thread).1
 joined-leaves s t dst stack None = refl
@@ -85,7 +80,7 @@ joined-leaves s t dst stack (Some (Running other)) = refl
 
 acted-leaves : (m : ModuleParts) (s : State) (t : ℕ) (dst : Option Loc) (stack : CallStack) (action : Action) → Leaves s t (acted m s t dst stack action).0 (acted m s t dst stack action).1
 acted-leaves m s t dst stack (Ask request) = replied-leaves s t dst stack (asked_of request t s.world).0 (asked_of request t s.world).1
-acted-leaves m s t dst stack (Create address n argument) = created-leaves m s t dst stack address n argument _ (is_valid s.memory.places address 8) refl
+acted-leaves m s t dst stack (Create address n argument) = created-leaves m s t dst stack address n argument _ _
 acted-leaves m s t dst stack (Join other) = joined-leaves s t dst stack (slice_get s.threads other)
 acted-leaves m s t dst stack (Exit code) = tt
 acted-leaves m s t dst stack other = local-leaves m s t dst stack other
@@ -108,15 +103,12 @@ unless_ended-leaves : (over : Bool) (s : State) (t : ℕ) (after : State × Step
 unless_ended-leaves true s t after h = refl
 unless_ended-leaves false s t after h = h
 
-pub step-leaves : (m : ModuleParts) (s : State) (t : ℕ) → Leaves s t (step m s t).0 (step m s t).1
+step-leaves : (m : ModuleParts) (s : State) (t : ℕ) → Leaves s t (step m s t).0 (step m s t).1
 step-leaves m s t = unless_ended-leaves s.ended s t _ (turned-leaves m s t (slice_get s.threads t))
-
-leaves-moved : (s after : State) (t : ℕ) (answer : Step) → Leaves s t after answer → answer ≡ Went → Moved s t after
-leaves-moved s after t answer h e = subst (Leaves s t after) e h
 
 -- a step that goes moves its thread alone
 pub step-moved : (m : ModuleParts) (s : State) (t : ℕ) → (step m s t).1 ≡ Went → Moved s t (step m s t).0
-step-moved m s t e = leaves-moved s _ t _ (step-leaves m s t) e
+step-moved m s t e = subst (Leaves s t (step m s t).0) e (step-leaves m s t)
 
 -- a step that waits or is idle changes nothing
 pub step-waits : (m : ModuleParts) (s : State) (t : ℕ) → (step m s t).1 ≡ Waits → (step m s t).0 ≡ s
@@ -125,18 +117,9 @@ step-waits m s t e = subst (Leaves s t (step m s t).0) e (step-leaves m s t)
 pub step-idle : (m : ModuleParts) (s : State) (t : ℕ) → (step m s t).1 ≡ Idle → (step m s t).0 ≡ s
 step-idle m s t e = subst (Leaves s t (step m s t).0) e (step-leaves m s t)
 
--- a thread that was never made is idle
-unless_ended-idle : (over : Bool) (s : State) → unless_ended over s (s, Idle) ≡ (s, Idle)
-unless_ended-idle true s = refl
-unless_ended-idle false s = refl
-
-slice_get-past : {A : Type 0} (xs : List A) (k : ℕ) → length xs ≤ k → slice_get xs k ≡ None
-slice_get-past [] k h = refl
-slice_get-past (x ∷ xs) zero h = absurd (omega arith)
-slice_get-past (x ∷ xs) (suc k) h = slice_get-past xs k (omega arith)
-
-pub step-never_made : (m : ModuleParts) (s : State) (t : ℕ) → length s.threads ≤ t → step m s t ≡ (s, Idle)
-step-never_made m s t h = ap (λ thread. unless_ended s.ended s (turned m s t thread)) (slice_get-past s.threads t h) ∙ unless_ended-idle s.ended s
+-- nor does one that is undefined
+pub step-undefined : (m : ModuleParts) (s : State) (t : ℕ) (cause : Cause) → (step m s t).1 ≡ Undefined cause → (step m s t).0 ≡ s
+step-undefined m s t cause e = subst (Leaves s t (step m s t).0) e (step-leaves m s t)
 
 -- where no thread is made, the others' next accesses stay
 pub next_access-moved : (m : ModuleParts) (s : State) (t : ℕ) (after : State) → Moved s t after → length after.threads ≡ length s.threads → (u : ℕ) → (u ≡ t → ⊥) → u < length s.threads → next_access m after u ≡ next_access m s u
@@ -144,7 +127,3 @@ next_access-moved m s t after moved same u other within =
     ap (λ over. unless_over over (access_by m (length after.threads) (slice_get after.threads u))) moved.ended
     ∙ ap (λ made. unless_over s.ended (access_by m made (slice_get after.threads u))) same
     ∙ ap (λ thread. unless_over s.ended (access_by m (length s.threads) thread)) (moved.others u other within)
-
--- nor does one that is undefined
-pub step-undefined : (m : ModuleParts) (s : State) (t : ℕ) (cause : Cause) → (step m s t).1 ≡ Undefined cause → (step m s t).0 ≡ s
-step-undefined m s t cause e = subst (Leaves s t (step m s t).0) e (step-leaves m s t)

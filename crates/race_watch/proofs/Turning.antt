@@ -1,5 +1,5 @@
 -- Turns of a watch where no two threads race.
-use Rattle.std.proofs.Common.{ℕ, suc, List, ◌∷◌, append-nil, ◌≡◌, ◌≤◌, ◌⊎◌, inl, inr, length, None, ap, sym, ◌∙◌, subst, refl}
+use Rattle.std.proofs.Common.{ℕ, suc, List, ◌∷◌, append-nil, ◌≡◌, ◌⊎◌, inl, inr, None, ap, sym, ◌∙◌, subst, refl}
 use Rattle.ir_core.specs.Module.{ModuleParts}
 use Rattle.inst_meaning.specs.declared.actions.Cause.{Cause}
 use Rattle.src_meaning.specs.declared.state.Step.{Step}
@@ -7,7 +7,7 @@ use Rattle.src_meaning.specs.declared.state.Step.TheVariants.{Went, Waits, Idle,
 use Rattle.src_meaning.specs.State.{State, Sourced}
 use Rattle.src_meaning.specs.Step.{step}
 use Rattle.src_meaning.specs.Races.{race_of}
-use Rattle.race_watch.proofs.Others.{step-moved, step-waits, step-idle, step-undefined}
+use Rattle.race_watch.proofs.Others.{step-waits, step-idle, step-undefined}
 use Rattle.race_watch.specs.declared.table.Table.{Table}
 use Rattle.race_watch.specs.declared.outcome.SrcStop.TheVariants as stops
 use Rattle.race_watch.specs.Tables.{IsTable}
@@ -33,11 +33,6 @@ stays-undefined before after t answer cause e a u = same-source before after t e
 abbrev pub Follows : Sourced → ℕ → Table → Table → Type 0
 Follows after t table new =
     (s : State) → IsTable after.program s table → race_of after.program s ≡ None → (step after.program s t).1 ≡ Went → after.state ≡ (step after.program s t).0 → IsTable after.program after.state new
-
-pub went-few : (before after : Sourced) (t : ℕ) → IsBehind before t after → (step before.program before.state t).1 ≡ Went → length before.state.threads ≤ 64 → length after.state.threads ≤ 64
-went-few before after t e went few =
-    let P : Sourced → Type 0 = λ source. length source.state.threads ≤ 64 in
-    subst P (sym e) ((step-moved before.program before.state t went).limited few)
 
 pub went-table : (before after : Sourced) (t : ℕ) (table new : Table) → IsBehind before t after → (step before.program before.state t).1 ≡ Went → IsTable before.program before.state table → race_of before.program before.state ≡ None → Follows after t table new → IsTable after.program after.state new
 went-table before after t table new e went kept none =

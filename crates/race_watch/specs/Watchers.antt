@@ -1,5 +1,5 @@
 -- A watch that is under way.
-use Rattle.std.specs.Prelude.{ℕ, ◌≡◌, ◌≤◌, List, [], ◌++◌, length}
+use Rattle.std.specs.Prelude.{ℕ, ◌≡◌, List, [], ◌++◌}
 use Rattle.ir_core.specs.Module.{ModuleParts}
 use Rattle.src_meaning.specs.State.{opening}
 use Rattle.race_watch.specs.declared.outcome.SrcStop.{SrcStop}
@@ -8,9 +8,8 @@ use Rattle.race_watch.specs.Tables.{IsTable}
 use Rattle.race_watch.specs.Watching.{Watched, watch_from}
 
 -- its table is that of its state
-pub record IsKept (w : Watcher) : Type 0 where
-  pub few : length w.source.state.threads ≤ 64
-  pub table : IsTable w.source.program w.source.state w.table
+abbrev pub IsKept : Watcher → Type 0
+IsKept w = IsTable w.source.program w.source.state w.table
 
 -- it has not begun
 pub record IsStart (m : ModuleParts) (arguments : List ℕ) (w : Watcher) : Type 0 where

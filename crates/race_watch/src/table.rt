@@ -44,7 +44,6 @@ fn race_with(accesses: &[Option<Access>], t: u32) -> Option<(Tid, Tid)>
 impl Table {
     /// The table of a source.
     pub(crate) fn of(alloc: Global, s: &Source<'_>) -> Result<Table, AllocError>
-        requires { length s.now.state.threads ≤ 64 }
         ensures { IfOk result (λ table. IsTable s.now.program s.now.state table) }
     {
         let mut accesses = Vec::with_capacity(alloc, s.made())?;
@@ -69,8 +68,7 @@ impl Table {
     /// Thread `t` went from a state without a race to that of the source. Where it made no thread, the other threads' next accesses
     /// are as they were.
     pub(crate) fn follow(&mut self, alloc: Global, s: &Source<'_>, t: Tid) -> Result<(), AllocError>
-        requires made { t.0 < length self.old.accesses.items }
-        requires few { length s.now.state.threads ≤ 64 }
+        requires { t.0 < length self.old.accesses.items }
         ensures { (before : State) → IsTable s.now.program before self.old → race_of s.now.program before ≡ None
             → (step s.now.program before t.0).1 ≡ Went → s.now.state ≡ (step s.now.program before t.0).0
             → OnOk result (IsTable s.now.program s.now.state self.new) }

@@ -26,7 +26,6 @@ struct Watcher<'a> {
 
 // A step of a thread. One that was never made is idle.
 fn stepped(source: &mut Source<'_>, t: Tid) -> Result<Step, AllocError>
-    requires { length source.old.state.threads ≤ 64 }
     ensures answer { IfOk result (λ answer. answer ≡ (step source.old.program source.old.state t.0).1) }
     ensures state { OnOk result (source.new ≡ record source.old { state = (step source.old.program source.old.state t.0).0 }) }
 {
