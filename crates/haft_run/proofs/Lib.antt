@@ -1,3 +1,4 @@
+pub mod Grouping
 pub mod Events
 pub mod Agreement
 pub mod Unflagged

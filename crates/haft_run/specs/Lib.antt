@@ -6,4 +6,3 @@ pub mod Meaning
 pub mod State
 pub mod Schedule
 pub mod Built
-pub mod SourceReport

@@ -1,0 +1,68 @@
+//! The turns of the source run that a run stands for, kept as maximal runs.
+ghost use Rattle.std.specs.Prelude.{◌≡◌, ◌+◌, ◌<◌, ◌^◌, ◌∷◌, [], ◌++◌, length, OnOk, OnErr};
+ghost use Rattle.haft_run.specs.Turns.{grouped, turns_of, added};
+
+use ir_core::{Seq, Tid, Turns};
+use std::alloc::{AllocError, Global};
+use std::marker::Model;
+
+/// Turns in order. Contracts see the list of their threads' numbers.
+#[derive(Drop)]
+pub struct TurnLog {
+    runs: Vec<(Tid, u64)>,
+}
+
+impl Model for TurnLog {
+    ghost use Rattle.std.specs.Prelude.{List, ℕ, ◌≡◌};
+    ghost use Rattle.haft_run.specs.Turns.{grouped, turns_of};
+
+    ghost Value = { List ℕ };
+
+    ghost view = { λ log. turns_of log.runs.items };
+
+    ghost invariant = { λ log. log.runs.items ≡ grouped (turns_of log.runs.items) };
+}
+
+/// Adds a turn at the end of runs.
+fn add_turn(runs: &mut Vec<(Tid, u64)>, tid: Tid) -> Result<(), AllocError>
+    requires { length (turns_of runs.old.items) + 1 < 2 ^ 64 }
+    ensures ok { OnOk result (runs.new.items ≡ added tid.0 runs.old.items) }
+    ensures err { OnErr result (runs.new.items ≡ runs.old.items) }
+{
+    if let Some(last) = runs.last_mut() {
+        if tid == last.0 {
+            last.1 += 1;
+            return Ok(());
+        }
+    }
+    runs.push((tid, 1))?;
+    Ok(())
+}
+
+impl TurnLog {
+    /// No turn. It takes no memory.
+    pub fn new(alloc: Global) -> TurnLog
+        ensures { result ≡ [] }
+    {
+        TurnLog {
+            runs: Vec::new(alloc),
+        }
+    }
+
+    /// Adds a turn of a thread.
+    pub fn push(&mut self, tid: Tid) -> Result<(), AllocError>
+        requires { length self.old + 1 < 2 ^ 64 }
+        ensures { OnOk result (self.new ≡ self.old ++ tid.0 ∷ []) }
+    {
+        add_turn(&mut self.runs, tid)?;
+        Ok(())
+    }
+
+    /// The turns as maximal runs.
+    pub fn into_runs(self) -> Turns
+        ensures { result ≡ grouped self }
+    {
+        let TurnLog { runs } = self;
+        Seq::from_vec(runs)
+    }
+}
