@@ -18,17 +18,25 @@ use Rattle.haft_run.specs.Built.{IsBuilt}
 use Rattle.haft_run.specs.Schedule.{IsUpsetFree, machine_events}
 use Rattle.haft_run.specs.Turns.{run_on}
 use Rattle.haft_run.specs.Report.{report_of}
+use Rattle.haft_run.specs.SourceReport.{src_report_of}
 use Rattle.haft_run.specs.declared.outcome.RunResult.{RunResult}
+use Rattle.race_watch.specs.Watching.{watch_of}
 use Rattle.haft_cli.specs.declared.command.Command.{Command}
-use Rattle.haft_cli.specs.declared.command.Command.TheVariants.{Check, Run}
+use Rattle.haft_cli.specs.declared.command.Command.TheVariants.{Check, Run, Src}
 use Rattle.haft_cli.specs.declared.command.Refusal.{Refusal}
 use Rattle.haft_cli.specs.declared.command.Refusal.TheVariants.{LongFirst, LongSecond, TextWord, TextByte, Module, UnbuiltFirst, Schedule, UnbuiltSecond}
 
--- the words are `check F` or `run F S`
+-- the words are `check F`, `run F S` or `src F S`
 abbrev pub command_of : List (List ℕ) → Option Command
 command_of (word ∷ first ∷ []) = if bytes_eq word (codes "check") then Some Check else None
-command_of (word ∷ first ∷ second ∷ []) = if bytes_eq word (codes "run") then Some Run else None
+command_of (word ∷ first ∷ second ∷ []) = if bytes_eq word (codes "run") then Some Run else (if bytes_eq word (codes "src") then Some Src else None)
 command_of words = None
+
+-- the command reads a second file
+abbrev pub ReadsSecond : Command → Type 0
+ReadsSecond Check = ⊥
+ReadsSecond Run = Unit {0}
+ReadsSecond Src = Unit {0}
 
 -- ---- the lines of refusals
 
@@ -89,10 +97,17 @@ IsWithin text = length text ≤ limit
 abbrev pub HasFault : List ℕ → Fault → Type 0
 HasFault text fault = (m : ModuleParts) × Text text m × IsFault m fault
 
--- the text stands for an accepted module that is built, or for one that isn't
-abbrev pub IsBuiltText : List ℕ → Type 0
-IsBuiltText text = (m : ModuleParts) × Text text m × IsAccepted m × IsBuilt m
+-- what a command asks of the module: only what is hardened must be built
+abbrev pub Admits : Command → ModuleParts → Type 0
+Admits Check m = IsAccepted m
+Admits Run m = IsAccepted m × IsBuilt m
+Admits Src m = IsAccepted m
 
+-- the text stands for such a module
+abbrev pub IsAdmitted : Command → List ℕ → Type 0
+IsAdmitted command text = (m : ModuleParts) × Text text m × Admits command m
+
+-- the text stands for an accepted module that isn't built
 abbrev pub IsUnbuiltText : List ℕ → Type 0
 IsUnbuiltText text = (m : ModuleParts) × Text text m × IsAccepted m × (IsBuilt m → ⊥)
 
@@ -104,6 +119,7 @@ HasUpset text = (s : ScheduleParts) × IsSchedule text s.args s.lines × (IsUpse
 abbrev pub AreWithin : Command → Option (List ℕ) → Option (List ℕ) → Type 0
 AreWithin Check first second = ForSome first IsWithin
 AreWithin Run first second = ForSome first IsWithin × ForSome second IsWithin
+AreWithin Src first second = ForSome first IsWithin × ForSome second IsWithin
 
 -- a text of a module is refused: by its first line that fits no form, or by the module's fault
 abbrev pub IsTextRefused : List ℕ → Refusal → Type 0
@@ -115,13 +131,13 @@ IsTextRefused text refusal = ⊥
 -- when a command's files are refused: in this order, the first that holds
 abbrev pub IsRefused : Command → Option (List ℕ) → Option (List ℕ) → Refusal → Type 0
 IsRefused command first second LongFirst = ForSome first (λ text. limit < length text)
-IsRefused command first second LongSecond = (command ≡ Run) × ForSome first IsWithin × ForSome second (λ text. limit < length text)
+IsRefused command first second LongSecond = ReadsSecond command × ForSome first IsWithin × ForSome second (λ text. limit < length text)
 IsRefused command first second (TextWord line word) = AreWithin command first second × ForSome first (λ text. IsTextRefused text (TextWord line word))
 IsRefused command first second (TextByte line column) = AreWithin command first second × ForSome first (λ text. IsTextRefused text (TextByte line column))
 IsRefused command first second (Module kind at name) = AreWithin command first second × ForSome first (λ text. IsTextRefused text (Module kind at name))
 IsRefused command first second UnbuiltFirst = (command ≡ Run) × AreWithin Run first second × ForSome first IsUnbuiltText
-IsRefused command first second (Schedule line) = (command ≡ Run) × AreWithin Run first second × ForSome first IsBuiltText × ForSome second (λ text. UnfitLine text line)
-IsRefused command first second UnbuiltSecond = (command ≡ Run) × AreWithin Run first second × ForSome first IsBuiltText × ForSome second HasUpset
+IsRefused command first second (Schedule line) = ReadsSecond command × AreWithin command first second × ForSome first (IsAdmitted command) × ForSome second (λ text. UnfitLine text line)
+IsRefused command first second UnbuiltSecond = (command ≡ Run) × AreWithin Run first second × ForSome first (IsAdmitted Run) × ForSome second HasUpset
 
 -- ---- reports
 
@@ -152,12 +168,22 @@ pub record Runs (first second : List ℕ) (m : ModuleParts) (s : ScheduleParts) 
   pub schedule_read : IsSchedule second s.args s.lines
   pub upset_free : IsUpsetFree (events_of s.lines)
 
+-- the text stands for an accepted module, and the other one is a schedule
+pub record Watches (first second : List ℕ) (m : ModuleParts) (s : ScheduleParts) : Type 0 where
+  pub module_read : Text first m
+  pub accepted : IsAccepted m
+  pub schedule_read : IsSchedule second s.args s.lines
+
 -- the run of a module on a schedule, and its report
 abbrev pub result_on : ModuleParts → ScheduleParts → RunResult
 result_on m s = run_on m (machine_events (events_of s.lines))
 
 abbrev pub run_report : ModuleParts → ScheduleParts → List ℕ
 run_report m s = report_of (result_on m s)
+
+-- the report of a module's watch on a schedule
+abbrev pub watch_report : ModuleParts → ScheduleParts → List ℕ
+watch_report m s = src_report_of (watch_of m s)
 
 -- the text is what `check` tells of this file
 pub record IsCheckReport (first : Option (List ℕ)) (text : List ℕ) : Type 0 where
@@ -177,9 +203,19 @@ pub record IsRunReport (first second : Option (List ℕ)) (text : List ℕ) : Ty
   pub upset_free : IsUpsetFree (events_of s.lines)
   pub report : text ≡ run_report m s
 
+-- the text is the report of the watch of these files
+pub record IsWatchReport (first second : Option (List ℕ)) (text : List ℕ) : Type 0 where
+  pub m : ModuleParts
+  pub s : ScheduleParts
+  pub within : AreWithin Src first second
+  pub checks : ForSome first (λ bytes. Checks bytes m)
+  pub schedule_read : ForSome second (λ bytes. IsSchedule bytes s.args s.lines)
+  pub report : text ≡ watch_report m s
+
 abbrev pub IsReport : Command → Option (List ℕ) → Option (List ℕ) → List ℕ → Type 0
 IsReport Check first second text = IsCheckReport first text
 IsReport Run first second text = IsRunReport first second text
+IsReport Src first second text = IsWatchReport first second text
 
 -- the text is the line of a refusal of these files
 pub record IsLine (command : Command) (first second : Option (List ℕ)) (text : List ℕ) : Type 0 where

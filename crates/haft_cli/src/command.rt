@@ -15,6 +15,8 @@ pub enum Command {
     Check,
     /// `run F S`: the run of a module, hardened, over a schedule.
     Run,
+    /// `src F S`: the run of a module's source over a schedule, up to its end, an undefined step or a race.
+    Src,
 }
 
 /// Why files are refused, in the order in which it is looked at. Lines and columns are counted from 1.
@@ -40,13 +42,13 @@ pub enum Refusal {
         at: Name,
         name: Option<Name>,
     },
-    /// The module of the first file isn't built.
+    /// The module of the first file, which is to be hardened, isn't built.
     UnbuiltFirst,
     /// A line of the second file is the first unfit one of a schedule.
     Schedule {
         line: u32,
     },
-    /// The schedule of the second file has an upset.
+    /// The schedule of the second file, for a hardened run, has an upset.
     UnbuiltSecond,
 }
 
@@ -167,6 +169,7 @@ pub fn command_of(words: &[String]) -> Option<Command>
     match words {
         [word, _] if word.as_bytes() == b"check".as_slice() => Some(Command::Check),
         [word, _, _] if word.as_bytes() == b"run".as_slice() => Some(Command::Run),
+        [word, _, _] if word.as_bytes() == b"src".as_slice() => Some(Command::Src),
         _ => None,
     }
 }

@@ -5,9 +5,9 @@ ghost use Rattle.haft_io.specs.Device.{Rose, Puts, PutsPart, emptied};
 ghost use Rattle.ir_core.specs.Module.{ModuleParts};
 ghost use Rattle.sched_file.specs.Schedule.{ScheduleParts};
 ghost use Rattle.haft_run.specs.Meaning.{IsGood, Means, Told};
-ghost use Rattle.haft_cli.specs.Command.{command_of, IsWithin, IsRefused, Checks, Runs, check_report, result_on, run_report};
+ghost use Rattle.haft_cli.specs.Command.{command_of, IsWithin, IsRefused, Checks, Runs, Watches, check_report, result_on, run_report, watch_report};
 ghost use Rattle.haft_cli.specs.declared.command.Command.{Command as CommandValue};
-ghost use Rattle.haft_cli.specs.declared.command.Command.TheVariants.{Check, Run};
+ghost use Rattle.haft_cli.specs.declared.command.Command.TheVariants.{Check, Run, Src};
 ghost use Rattle.haft_cli.specs.declared.command.Refusal.{Refusal};
 ghost use Rattle.haft_cli.specs.Written.{WritesReport, WritesRefusal, WritesPart, IsQuiet};
 ghost use Rattle.haft_cli.specs.Work.{IsRead, RoseIn, AreTold, status_of, text_of};
@@ -52,10 +52,12 @@ fn finish<O: Sink>(out: &mut O, work: &Work) -> Status
 
 /// Does what the words ask for. `check F` reads the first file, which is the text of a module, and writes `accepted` and how
 /// many functions, blocks and instructions it has. `run F S` reads also the second, which is a schedule, hardens the
-/// program, runs it over the schedule and writes the report of the run.
+/// program, runs it over the schedule and writes the report of the run. `src F S` reads the same files, runs the source
+/// itself over the schedule's turns, up to its end, an undefined step or a race, and writes the report of that.
 ///
-/// The order is: the words; the first file, read whole; the second; the text of the module; its check; whether it is
-/// built; the text of the schedule; whether it has an upset; the run; the write. For want of memory nothing is written.
+/// The order is: the words; the first file, read whole; the second; the text of the module; its check; for `run` whether it
+/// is built; the text of the schedule; for `run` whether it has an upset; the run; the write. For want of memory nothing is
+/// written.
 pub fn haft<I: Inputs, O: Sink>(
     alloc: Global,
     words: &[String],
@@ -108,11 +110,23 @@ pub fn haft<I: Inputs, O: Sink>(
         → I.left inputs.old Which.First ≡ Some first → I.left inputs.old Which.Second ≡ Some second
         → Runs first second m s → IsGood m → Means m (result_on m s) }
 
+    // For an accepted module and a schedule `src` writes exactly the report of the watch.
+    ensures watched { (first second : List ℕ) (m : ModuleParts) (s : ScheduleParts) → command_of (map string_bytes words.now) ≡ Some Src → result ≡ Status.Done
+        → I.left inputs.old Which.First ≡ Some first → I.left inputs.old Which.Second ≡ Some second
+        → Watches first second m s
+        → Puts (O.written out.old) (watch_report m s) (O.written out.new) }
+
     // Where all is right, only want of memory stands in the way.
     ensures complete { (first second : List ℕ) (m : ModuleParts) (s : ScheduleParts) → command_of (map string_bytes words.now) ≡ Some Run
         → I.left inputs.old Which.First ≡ Some first → I.left inputs.old Which.Second ≡ Some second
         → IsWithin first → IsWithin second → Runs first second m s
         → ¬ RoseIn Run (I.faults inputs.old) (I.faults inputs.new)
+        → ¬ Rose (O.faults out.old) (O.faults out.new)
+        → (result ≡ Status.Done) ⊎ (result ≡ Status.NoMemory) }
+    ensures watch_complete { (first second : List ℕ) (m : ModuleParts) (s : ScheduleParts) → command_of (map string_bytes words.now) ≡ Some Src
+        → I.left inputs.old Which.First ≡ Some first → I.left inputs.old Which.Second ≡ Some second
+        → IsWithin first → IsWithin second → Watches first second m s
+        → ¬ RoseIn Src (I.faults inputs.old) (I.faults inputs.new)
         → ¬ Rose (O.faults out.old) (O.faults out.new)
         → (result ≡ Status.Done) ⊎ (result ≡ Status.NoMemory) }
     ensures check_complete { (first : List ℕ) (m : ModuleParts) → command_of (map string_bytes words.now) ≡ Some Check

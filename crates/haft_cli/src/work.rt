@@ -7,19 +7,20 @@ ghost use Rattle.sched_file.specs.Schedule.{ScheduleParts, IsSchedule};
 ghost use Rattle.sched_file.specs.Events.{events_of};
 ghost use Rattle.haft_run.specs.Built.{IsBuilt};
 ghost use Rattle.haft_run.specs.Schedule.{IsUpsetFree};
-ghost use Rattle.haft_cli.specs.Command.{IsWithin, IsRefused, Checks, Runs, limit};
+ghost use Rattle.haft_cli.specs.Command.{IsWithin, IsRefused, Checks, Runs, Watches, limit};
 ghost use Rattle.haft_cli.specs.declared.command.Command.{Command as CommandValue};
-ghost use Rattle.haft_cli.specs.declared.command.Command.TheVariants.{Check, Run};
-ghost use Rattle.haft_cli.specs.Work.{IsWork, IsReportWork, IsRead, IsOpened, IsCheckOf, IsRunOf, RoseIn, status_of};
+ghost use Rattle.haft_cli.specs.declared.command.Command.TheVariants.{Check, Run, Src};
+ghost use Rattle.haft_cli.specs.Work.{IsWork, IsReportWork, IsRead, IsOpened, IsCheckOf, IsRunOf, IsWatchOf, AreTexts, Holds, RoseIn, RoseInEither, status_of};
 ghost use Rattle.haft_cli.specs.declared.work.Stopped.TheVariants.{NoMemory, ReadFault};
 
 use crate::Status;
 use crate::command::{Command, Refusal};
 use crate::counts::check_report;
 use haft_io::{Inputs, ReadFail, Which, read_whole};
-use haft_run::{built, report, run, upset_free};
+use haft_run::{built, report, run, src_report, upset_free};
 use ir_check::{Accepted, CheckError, accept};
 use ir_parse_top::{ParseError, parse_module};
+use race_watch::watch;
 use sched_file::{SchedError, Schedule, parse_schedule};
 use std::alloc::{AllocError, Global};
 
@@ -29,7 +30,7 @@ pub const LIMIT: usize = 4_194_304;
 /// What is to be written.
 #[derive(Drop)]
 pub enum Work {
-    /// The report of the run.
+    /// What the command tells of its files.
     Report(Vec<u8>),
     /// The line of a refusal.
     Refused(Vec<u8>),
@@ -58,7 +59,7 @@ fn read_text<I: Inputs>(
     inputs: &mut I,
     which: Which,
 ) -> Result<Option<Vec<u8>>, Stopped>
-    ensures bytes { IfOk result (λ text. IfSome text (λ bytes. ForSome (I.left inputs.old which) (λ rest. bytes.items ≡ rest))) }
+    ensures bytes { IfOk result (λ text. IfSome text (λ bytes. Holds (I.left inputs.old which) bytes.items)) }
     ensures within { IfOk result (λ text. IfSome text (λ bytes. IsWithin bytes.items)) }
     ensures end { IfOk result (λ text. OnSome text (I.left inputs.new which ≡ emptied (I.left inputs.old which))) }
     ensures long { IfOk result (λ text. IfNone text (ForSome (I.left inputs.old which) (λ rest. limit < length rest))) }
@@ -72,6 +73,29 @@ fn read_text<I: Inputs>(
         Err(ReadFail::Failed) => Err(Stopped::ReadFault),
         Err(ReadFail::NoMemory) => Err(Stopped::NoMemory),
     }
+}
+
+/// Two files, read whole.
+#[derive(Drop)]
+pub enum Texts {
+    /// Their bytes.
+    Both(Vec<u8>, Vec<u8>),
+    /// One of them is too long.
+    Long(Refusal),
+}
+
+/// Reads both files, the first before the second.
+fn read_both<I: Inputs>(alloc: Global, inputs: &mut I) -> Result<Texts, Stopped>
+    ensures texts { IfOk result (AreTexts (I.left inputs.old) (I.left inputs.new)) }
+    ensures failed { IsErrOf result Stopped.ReadFault → RoseInEither (I.faults inputs.old) (I.faults inputs.new) }
+{
+    let Some(first) = read_text(alloc, inputs, Which::First)? else {
+        return Ok(Texts::Long(Refusal::LongFirst));
+    };
+    let Some(second) = read_text(alloc, inputs, Which::Second)? else {
+        return Ok(Texts::Long(Refusal::LongSecond));
+    };
+    Ok(Texts::Both(first, second))
 }
 
 /// The work that is a refusal.
@@ -117,7 +141,7 @@ fn open_module(alloc: Global, text: &[u8]) -> Result<Opened, AllocError>
     }
 }
 
-/// The work for an accepted module that is built and a schedule.
+/// The work of `run` for an accepted module that is built and a schedule.
 fn run_schedule(alloc: Global, a: &Accepted, s: &Schedule) -> Result<Work, AllocError>
     requires built { IsBuilt a.now }
     requires few { length (events_of s.now.lines) ≤ 4194304 }
@@ -132,7 +156,7 @@ fn run_schedule(alloc: Global, a: &Accepted, s: &Schedule) -> Result<Work, Alloc
     Ok(Work::Report(text))
 }
 
-/// The work for an accepted module that is built and a second file.
+/// The work of `run` for an accepted module that is built and a second file.
 fn run_built(alloc: Global, a: &Accepted, second: &[u8]) -> Result<Work, AllocError>
     requires built { IsBuilt a.now }
     requires within { IsWithin second.now }
@@ -146,7 +170,7 @@ fn run_built(alloc: Global, a: &Accepted, second: &[u8]) -> Result<Work, AllocEr
     }
 }
 
-/// The work for an accepted module and a second file.
+/// The work of `run` for an accepted module and a second file.
 fn run_text(alloc: Global, a: &Accepted, second: &[u8]) -> Result<Work, AllocError>
     requires { IsWithin second.now }
     ensures work { (first : List ℕ) → IsWithin first → Checks first a.now → IfOk result (IsWork Run (Some first) (Some second.now)) }
@@ -159,7 +183,7 @@ fn run_text(alloc: Global, a: &Accepted, second: &[u8]) -> Result<Work, AllocErr
     }
 }
 
-/// The work of a run for two texts that aren't too long.
+/// The work of `run` for two texts that aren't too long.
 fn run_texts(alloc: Global, first: &[u8], second: &[u8]) -> Result<Work, AllocError>
     requires first_within { IsWithin first.now }
     requires second_within { IsWithin second.now }
@@ -176,7 +200,48 @@ fn run_texts(alloc: Global, first: &[u8], second: &[u8]) -> Result<Work, AllocEr
     }
 }
 
-/// The work of a check for a text that isn't too long.
+/// The work of `src` for an accepted module and a schedule.
+fn src_schedule(alloc: Global, a: &Accepted, s: &Schedule) -> Result<Work, AllocError>
+    requires { length (events_of s.now.lines) ≤ 4194304 }
+    ensures work { (first second : List ℕ) → IsWithin first → IsWithin second → Checks first a.now → IsSchedule second s.now.args s.now.lines → IfOk result (IsWork Src (Some first) (Some second)) }
+    ensures watch { IfOk result (IsWatchOf a.now s.now) }
+{
+    let outcome = watch(alloc, a, s)?;
+    let text = src_report(alloc, &outcome)?;
+    Ok(Work::Report(text))
+}
+
+/// The work of `src` for an accepted module and a second file.
+fn src_text(alloc: Global, a: &Accepted, second: &[u8]) -> Result<Work, AllocError>
+    requires { IsWithin second.now }
+    ensures work { (first : List ℕ) → IsWithin first → Checks first a.now → IfOk result (IsWork Src (Some first) (Some second.now)) }
+    ensures watch { (s : ScheduleParts) → IsSchedule second.now s.args s.lines → IfOk result (IsWatchOf a.now s) }
+{
+    match parse_schedule(alloc, second) {
+        Ok(s) => src_schedule(alloc, a, &s),
+        Err(SchedError::Refused { line }) => refused(alloc, Refusal::Schedule { line }),
+        Err(SchedError::NoMemory) => Err(AllocError),
+    }
+}
+
+/// The work of `src` for two texts that aren't too long.
+fn src_texts(alloc: Global, first: &[u8], second: &[u8]) -> Result<Work, AllocError>
+    requires first_within { IsWithin first.now }
+    requires second_within { IsWithin second.now }
+    ensures work { IfOk result (IsWork Src (Some first.now) (Some second.now)) }
+    ensures watch { (m : ModuleParts) (s : ScheduleParts) → Watches first.now second.now m s → IfOk result (IsWatchOf m s) }
+{
+    match open_module(alloc, first)? {
+        Opened::Accepted(a) => {
+            let work = src_text(alloc, &a, second);
+            drop(a);
+            work
+        }
+        Opened::Turned(refusal) => refused(alloc, refusal),
+    }
+}
+
+/// The work of `check` for a text that isn't too long.
 fn check_text(alloc: Global, first: &[u8]) -> Result<Work, AllocError>
     requires { IsWithin first.now }
     ensures work { (second : Option (List ℕ)) → IfOk result (IsWork Check (Some first.now) second) }
@@ -222,17 +287,30 @@ fn prepare_run<I: Inputs>(alloc: Global, inputs: &mut I) -> Result<Work, Stopped
     ensures exact { (first second : List ℕ) (m : ModuleParts) (s : ScheduleParts) → I.left inputs.old Which.First ≡ Some first → I.left inputs.old Which.Second ≡ Some second
         → Runs first second m s → IfOk result (λ work. status_of work ≡ Status.Done → IsRunOf m s work) }
     ensures read { IfOk result (λ work. IsReportWork work → IsRead Run (I.left inputs.old) (I.left inputs.new)) }
-    ensures failed { IsErrOf result Stopped.ReadFault → Rose (I.faults inputs.old Which.First) (I.faults inputs.new Which.First)
-        ⊎ Rose (I.faults inputs.old Which.Second) (I.faults inputs.new Which.Second) }
+    ensures failed { IsErrOf result Stopped.ReadFault → RoseInEither (I.faults inputs.old) (I.faults inputs.new) }
 {
-    let Some(first) = read_text(alloc, inputs, Which::First)? else {
-        return Ok(refused(alloc, Refusal::LongFirst)?);
-    };
-    let Some(second) = read_text(alloc, inputs, Which::Second)? else {
-        return Ok(refused(alloc, Refusal::LongSecond)?);
-    };
-    let work = run_texts(alloc, &first, &second)?;
-    Ok(work)
+    match read_both(alloc, inputs)? {
+        Texts::Both(first, second) => Ok(run_texts(alloc, &first, &second)?),
+        Texts::Long(refusal) => Ok(refused(alloc, refusal)?),
+    }
+}
+
+/// The work of `src` for the files, which are read whole, the first before the second.
+fn prepare_src<I: Inputs>(alloc: Global, inputs: &mut I) -> Result<Work, Stopped>
+    ensures work { IfOk result (IsWork Src (I.left inputs.old Which.First) (I.left inputs.old Which.Second)) }
+    // An accepted module and a schedule give the report of their watch.
+    ensures watch { (first second : List ℕ) (m : ModuleParts) (s : ScheduleParts) → I.left inputs.old Which.First ≡ Some first → I.left inputs.old Which.Second ≡ Some second
+        → IsWithin first → IsWithin second → Watches first second m s → IfOk result (IsWatchOf m s) }
+    // A report for such files is that of their watch.
+    ensures exact { (first second : List ℕ) (m : ModuleParts) (s : ScheduleParts) → I.left inputs.old Which.First ≡ Some first → I.left inputs.old Which.Second ≡ Some second
+        → Watches first second m s → IfOk result (λ work. status_of work ≡ Status.Done → IsWatchOf m s work) }
+    ensures read { IfOk result (λ work. IsReportWork work → IsRead Src (I.left inputs.old) (I.left inputs.new)) }
+    ensures failed { IsErrOf result Stopped.ReadFault → RoseInEither (I.faults inputs.old) (I.faults inputs.new) }
+{
+    match read_both(alloc, inputs)? {
+        Texts::Both(first, second) => Ok(src_texts(alloc, &first, &second)?),
+        Texts::Long(refusal) => Ok(refused(alloc, refusal)?),
+    }
 }
 
 /// The work of a command for its files, which are read whole, the first before the second.
@@ -242,6 +320,10 @@ pub fn prepare<I: Inputs>(alloc: Global, command: Command, inputs: &mut I) -> Re
         → IsWithin first → IsWithin second → Runs first second m s → IfOk result (IsRunOf m s) }
     ensures run_exact { (first second : List ℕ) (m : ModuleParts) (s : ScheduleParts) → command ≡ Run → I.left inputs.old Which.First ≡ Some first → I.left inputs.old Which.Second ≡ Some second
         → Runs first second m s → IfOk result (λ work. status_of work ≡ Status.Done → IsRunOf m s work) }
+    ensures watch { (first second : List ℕ) (m : ModuleParts) (s : ScheduleParts) → command ≡ Src → I.left inputs.old Which.First ≡ Some first → I.left inputs.old Which.Second ≡ Some second
+        → IsWithin first → IsWithin second → Watches first second m s → IfOk result (IsWatchOf m s) }
+    ensures watch_exact { (first second : List ℕ) (m : ModuleParts) (s : ScheduleParts) → command ≡ Src → I.left inputs.old Which.First ≡ Some first → I.left inputs.old Which.Second ≡ Some second
+        → Watches first second m s → IfOk result (λ work. status_of work ≡ Status.Done → IsWatchOf m s work) }
     ensures check { (first : List ℕ) (m : ModuleParts) → command ≡ Check → I.left inputs.old Which.First ≡ Some first
         → IsWithin first → Checks first m → IfOk result (IsCheckOf m) }
     ensures check_exact { (first : List ℕ) (m : ModuleParts) → command ≡ Check → I.left inputs.old Which.First ≡ Some first
@@ -253,5 +335,6 @@ pub fn prepare<I: Inputs>(alloc: Global, command: Command, inputs: &mut I) -> Re
     match command {
         Command::Check => prepare_check(alloc, inputs),
         Command::Run => prepare_run(alloc, inputs),
+        Command::Src => prepare_src(alloc, inputs),
     }
 }

@@ -1,4 +1,3 @@
-pub mod Grouping
 pub mod Events
 pub mod Agreement
 pub mod Unflagged

@@ -7,10 +7,11 @@ use Rattle.haft_run.specs.Source as source
 use Rattle.haft_run.specs.Source.{State, Answer, Went, Idle, Undefined, Ended}
 use Rattle.haft_run.specs.Hard as hard
 use Rattle.haft_run.specs.Hard.{Machine, Event, Turn, Abort, event}
-use Rattle.haft_run.specs.Turns.{hardened_functions, result_of, run_on, turns_of, grouped}
+use Rattle.turn_runs.specs.Runs.{turns_of, grouped}
+use Rattle.haft_run.specs.Turns.{hardened_functions, result_of, run_on}
 use Rattle.haft_run.specs.Meaning.{code_of, IsGood, Means, IsUndefinedOn, Told, Meant, NotDefined}
 use Rattle.haft_run.proofs.Agreement.{Agrees-refl}
-use Rattle.haft_run.proofs.Grouping.{turns_of-grouped}
+use Rattle.turn_runs.proofs.Grouping.{turns_of-grouped}
 use Rattle.haft_run.proofs.Places.{code_of-hardened}
 use Rattle.haft_run.proofs.Points.{Both, Stands, BothAbsent, BothRun, BothExit, EachWent, Goes, Simulates, IsGoing, IsOver, IsPast}
 use Rattle.haft_run.proofs.Kept.{EachWent-AllWent, never_undefined, still_undefined, exits, ends}

@@ -6,3 +6,4 @@ pub mod Meaning
 pub mod State
 pub mod Schedule
 pub mod Built
+pub mod SourceReport

@@ -7,7 +7,7 @@ use Rattle.haft_run.specs.declared.outcome.Stop.{Stop}
 use Rattle.haft_run.specs.declared.outcome.Stop.TheVariants.{End, Fail, Trap}
 use Rattle.haft_run.specs.declared.outcome.RunResult.{RunResult}
 use Rattle.haft_run.specs.Source.{Answer, Went, Idle, Undefined, Ended, step, source}
-use Rattle.haft_run.specs.Turns.{turns_of}
+use Rattle.turn_runs.specs.Runs.{turns_of}
 
 -- each answer is Went, but that the last may be Ended
 abbrev pub AllWent : List Answer → Type 0

@@ -5,7 +5,8 @@
 //! `specs/Hard.antt` on the image of `hard_ir`'s `specs/Image.antt`, over the schedule's events. Where the module is
 //! good, which is that no list of turns comes to an undefined step, the result stands for a run of the source program
 //! (`specs/Source.antt`), as `specs/Meaning.antt` says; a step of a built module is undefined only by an operator.
-//! `report` writes a result as bytes (`specs/Report.antt`).
+//! `report` writes a result as bytes (`specs/Report.antt`), and `src_report` what a watched run of the source comes to
+//! (`specs/SourceReport.antt`).
 //!
 //! The passes and the machine are private, and plain by design: they serve one block and one thread, and
 //! crates of their own take their place.
@@ -19,11 +20,12 @@ mod outcome;
 mod printing;
 mod runs;
 mod schedules;
+mod source_report;
 mod state;
-mod turns;
 
 pub use building::built;
 pub use outcome::{Aborts, RunResult, Stop};
 pub use printing::report;
 pub use runs::run;
 pub use schedules::upset_free;
+pub use source_report::src_report;

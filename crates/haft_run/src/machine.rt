@@ -13,7 +13,6 @@ ghost use Rattle.haft_run.specs.Schedule.{machine_events};
 ghost use Rattle.haft_run.specs.Turns.{result_of};
 
 use crate::state::{Effect, Frame, Thread};
-use crate::turns::TurnLog;
 use crate::{Aborts, RunResult, Stop};
 use hard_ir::{HBlocks, HInst};
 use ir_action::{Action, Callee, Registers, Request};
@@ -22,6 +21,7 @@ use itoa::Buffer;
 use sched_file::Event;
 use std::alloc::{AllocError, Global};
 use std::mem;
+use turn_runs::TurnLog;
 
 /// A machine in the middle of a run.
 #[derive(Drop)]

@@ -9,7 +9,7 @@ use itoa::Buffer;
 use std::alloc::{AllocError, Global};
 
 /// Adds a number in decimal digits.
-fn push_number(text: &mut Vec<u8>, number: u64) -> Result<(), AllocError>
+pub(crate) fn push_number(text: &mut Vec<u8>, number: u64) -> Result<(), AllocError>
     ensures { OnOk result (text.new.items ≡ text.old.items ++ decimal number) }
 {
     let mut buffer = Buffer::new();
@@ -87,7 +87,7 @@ fn push_run(text: &mut Vec<u8>, run: (Tid, u64)) -> Result<(), AllocError>
 }
 
 /// Adds the lines of all outputs.
-fn push_outs(text: &mut Vec<u8>, outs: &[Out]) -> Result<(), AllocError>
+pub(crate) fn push_outs(text: &mut Vec<u8>, outs: &[Out]) -> Result<(), AllocError>
     ensures { OnOk result (text.new.items ≡ text.old.items ++ flat_map out_line outs.now) }
 {
     for out in outs {
@@ -97,7 +97,7 @@ fn push_outs(text: &mut Vec<u8>, outs: &[Out]) -> Result<(), AllocError>
 }
 
 /// Adds the line of the turns of the source run.
-fn push_source(text: &mut Vec<u8>, runs: &[(Tid, u64)]) -> Result<(), AllocError>
+pub(crate) fn push_source(text: &mut Vec<u8>, runs: &[(Tid, u64)]) -> Result<(), AllocError>
     ensures { OnOk result (text.new.items ≡ text.old.items ++ source_line runs.now) }
 {
     text.extend_from_slice(b"src")?;

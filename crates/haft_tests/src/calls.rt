@@ -127,7 +127,7 @@ fn faulty_words_write_and_read_nothing(rt: HostRuntime) {
         "run a b c",
         "check",
         "check a b",
-        "src a b",
+        "srcs a b",
         "walk a b",
     ] {
         let words = words_of(&rt, alloc, line);

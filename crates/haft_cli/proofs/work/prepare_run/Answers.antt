@@ -1,39 +1,36 @@
 use Rattle.haft_io.specs.declared.device.Which.TheVariants.{First, Second}
 use Rattle.haft_cli.specs.declared.command.Command.TheVariants.{Run}
-use Rattle.haft_cli.proofs.Preparing.{long_second, work_for, run_for, held_before, held_as}
+use Rattle.haft_cli.specs.Command.{IsRefused}
+use Rattle.haft_cli.proofs.Finishes.{run_not_refused}
+use Rattle.haft_cli.proofs.Preparing.{whole_as, work_for, run_for}
 use Rattle.haft_cli.proofs.work.prepare_run.Goals as goal
 
-pub returns-in_default-clause-work : goal.returns-in_default-clause-work
-returns-in_default-clause-work g c = c.in_ok-refused.ensures.work Run (g.I.Inputs.left c.args.inputs.now First) (g.I.Inputs.left c.args.inputs.now Second) (rw c.in_default.is at c.in_ok-first.ensures.long)
+pub returns-in_ok-run_texts-in-Both-clause-work : goal.returns-in_ok-run_texts-in-Both-clause-work
+returns-in_ok-run_texts-in-Both-clause-work g c =
+    let left = g.I.Inputs.left c.args.inputs.now in
+    let whole = whole_as left (g.I.Inputs.left c.read_both.new.inputs) c.in-Both.first.items c.in-Both.second.items c.deref.result.now c.deref-in-Both.result.now c.deref.ensures.value c.deref-in-Both.ensures.value (rw c.in-Both.is at c.in_ok-first.ensures.texts) in
+    work_for left (g.I.Inputs.left c.read_both.new.inputs) c.deref.result.now c.deref-in-Both.result.now whole Run c.in_ok-run_texts-in-Both.field-0 tt c.in_ok-run_texts-in-Both.ensures.work
 
-pub returns-in_default-2-clause-work : goal.returns-in_default-2-clause-work
-returns-in_default-2-clause-work g c =
-    c.in_ok-refused-2.ensures.work Run (g.I.Inputs.left c.args.inputs.now First) (g.I.Inputs.left c.args.inputs.now Second)
-    (long_second (g.I.Inputs.left c.args.inputs.now First) (g.I.Inputs.left c.args.inputs.now Second) (g.I.Inputs.left c.read_text.new.inputs Second) c.in-Some.first.items
-    (rw c.in-Some.is at c.in_ok-first.ensures.bytes) (rw c.in-Some.is at c.in_ok-first.ensures.within) c.in_ok-first.ensures.other_left (rw c.in_default-2.is at c.in_ok-second.ensures.long))
+pub returns-in_ok-run_texts-in-Both-clause-run : goal.returns-in_ok-run_texts-in-Both-clause-run
+returns-in_ok-run_texts-in-Both-clause-run g c = λ first second m s told_first told_second first_within second_within runs.
+    let left = g.I.Inputs.left c.args.inputs.now in
+    let whole = whole_as left (g.I.Inputs.left c.read_both.new.inputs) c.in-Both.first.items c.in-Both.second.items c.deref.result.now c.deref-in-Both.result.now c.deref.ensures.value c.deref-in-Both.ensures.value (rw c.in-Both.is at c.in_ok-first.ensures.texts) in
+    c.in_ok-run_texts-in-Both.ensures.run m s (run_for left (g.I.Inputs.left c.read_both.new.inputs) c.deref.result.now c.deref-in-Both.result.now whole first second m s told_first told_second runs)
 
-pub returns-clause-work : goal.returns-clause-work
-returns-clause-work g c =
-    work_for (g.I.Inputs.left c.args.inputs.now First) (g.I.Inputs.left c.args.inputs.now Second) c.deref.result.now c.deref-2.result.now
-    (held_as (g.I.Inputs.left c.args.inputs.now First) c.in-Some.first.items c.deref.result.now c.deref.ensures.value (rw c.in-Some.is at c.in_ok-first.ensures.bytes))
-    (held_as (g.I.Inputs.left c.args.inputs.now Second) c.in-Some-2.second.items c.deref-2.result.now c.deref-2.ensures.value
-    (held_before (g.I.Inputs.left c.args.inputs.now Second) (g.I.Inputs.left c.read_text.new.inputs Second) c.in-Some-2.second.items c.in_ok-first.ensures.other_left (rw c.in-Some-2.is at c.in_ok-second.ensures.bytes)))
-    c.in_ok-work.work c.in_ok-work.ensures.work
+pub returns-in_ok-run_texts-in-Both-clause-exact : goal.returns-in_ok-run_texts-in-Both-clause-exact
+returns-in_ok-run_texts-in-Both-clause-exact g c = λ first second m s told_first told_second runs done.
+    let left = g.I.Inputs.left c.args.inputs.now in
+    let whole = whole_as left (g.I.Inputs.left c.read_both.new.inputs) c.in-Both.first.items c.in-Both.second.items c.deref.result.now c.deref-in-Both.result.now c.deref.ensures.value c.deref-in-Both.ensures.value (rw c.in-Both.is at c.in_ok-first.ensures.texts) in
+    c.in_ok-run_texts-in-Both.ensures.run m s (run_for left (g.I.Inputs.left c.read_both.new.inputs) c.deref.result.now c.deref-in-Both.result.now whole first second m s told_first told_second runs)
 
-pub returns-clause-run : goal.returns-clause-run
-returns-clause-run g c = λ first second m s told_first told_second first_within second_within runs.
-    c.in_ok-work.ensures.run m s
-    (run_for (g.I.Inputs.left c.args.inputs.now First) (g.I.Inputs.left c.args.inputs.now Second) c.deref.result.now c.deref-2.result.now
-    (held_as (g.I.Inputs.left c.args.inputs.now First) c.in-Some.first.items c.deref.result.now c.deref.ensures.value (rw c.in-Some.is at c.in_ok-first.ensures.bytes))
-    (held_as (g.I.Inputs.left c.args.inputs.now Second) c.in-Some-2.second.items c.deref-2.result.now c.deref-2.ensures.value
-    (held_before (g.I.Inputs.left c.args.inputs.now Second) (g.I.Inputs.left c.read_text.new.inputs Second) c.in-Some-2.second.items c.in_ok-first.ensures.other_left (rw c.in-Some-2.is at c.in_ok-second.ensures.bytes)))
-    first second m s told_first told_second runs)
+pub returns-in_ok-refused-in-Long-clause-work : goal.returns-in_ok-refused-in-Long-clause-work
+returns-in_ok-refused-in-Long-clause-work g c =
+    let left = g.I.Inputs.left c.args.inputs.now in
+    let long : IsRefused Run (left First) (left Second) c.in-Long.refusal = (rw c.in-Long.is at c.in_ok-first.ensures.texts) Run tt in
+    c.in_ok-refused-in-Long.ensures.work Run (left First) (left Second) long
 
-pub returns-clause-exact : goal.returns-clause-exact
-returns-clause-exact g c = λ first second m s told_first told_second runs done.
-    c.in_ok-work.ensures.run m s
-    (run_for (g.I.Inputs.left c.args.inputs.now First) (g.I.Inputs.left c.args.inputs.now Second) c.deref.result.now c.deref-2.result.now
-    (held_as (g.I.Inputs.left c.args.inputs.now First) c.in-Some.first.items c.deref.result.now c.deref.ensures.value (rw c.in-Some.is at c.in_ok-first.ensures.bytes))
-    (held_as (g.I.Inputs.left c.args.inputs.now Second) c.in-Some-2.second.items c.deref-2.result.now c.deref-2.ensures.value
-    (held_before (g.I.Inputs.left c.args.inputs.now Second) (g.I.Inputs.left c.read_text.new.inputs Second) c.in-Some-2.second.items c.in_ok-first.ensures.other_left (rw c.in-Some-2.is at c.in_ok-second.ensures.bytes)))
-    first second m s told_first told_second runs)
+pub returns-in_ok-refused-in-Long-clause-run : goal.returns-in_ok-refused-in-Long-clause-run
+returns-in_ok-refused-in-Long-clause-run g c = λ first second m s told_first told_second first_within second_within runs.
+    let left = g.I.Inputs.left c.args.inputs.now in
+    let long : IsRefused Run (left First) (left Second) c.in-Long.refusal = (rw c.in-Long.is at c.in_ok-first.ensures.texts) Run tt in
+    absurd (run_not_refused (left First) (left Second) first second m s c.in-Long.refusal told_first told_second first_within second_within runs long)

@@ -1,10 +1,10 @@
-use Rattle.std.proofs.Common.{◌≡◌, List, Some, Err, ap, refl, sym, subst}
+use Rattle.std.proofs.Common.{◌≡◌, List, Some, Err, ap, sym, subst}
 use Rattle.sched_file.specs.declared.entries.Line.{Line as Entry}
 use Rattle.sched_file.specs.Schedule.{UnfitLine}
 use Rattle.sched_file.specs.Events.{events_of}
 use Rattle.sched_file.proofs.SoFar.{not_unfit}
 use Rattle.haft_run.specs.Schedule.{IsUpsetFree}
-use Rattle.haft_cli.specs.Command.{IsWithin, IsBuiltText}
+use Rattle.haft_cli.specs.Command.{IsWithin, IsAdmitted}
 use Rattle.haft_cli.specs.declared.command.Command.TheVariants.{Run}
 use Rattle.haft_cli.proofs.Files.{for_some}
 use Rattle.haft_cli.proofs.Finishes.{same_entries, run_of_same}
@@ -21,9 +21,9 @@ returns-in-Ok-clause-run c = λ s schedule free.
 pub returns-in-Err-Refused-clause-work : goal.returns-in-Err-Refused-clause-work
 returns-in-Err-Refused-clause-work c = λ first within checks.
     c.refused.ensures.work Run (Some first) (Some c.args.second.now) (
-      refl,
+      tt,
       (for_some IsWithin first within, for_some IsWithin c.args.second.now c.requires.within),
-      for_some IsBuiltText first (c.args.a.now, checks.module_read, checks.accepted, c.requires.built),
+      for_some (IsAdmitted Run) first (c.args.a.now, checks.module_read, (checks.accepted, c.requires.built)),
       for_some (λ bytes. UnfitLine bytes c.in-Err-Refused.line) c.args.second.now (c.in-Err-Refused.ensures.unfit c.in-Err-Refused.line (ap Err c.in-Err-Refused.field-0-is)),
     )
 

@@ -3,7 +3,7 @@ use Rattle.std.proofs.lemmas.Bool.{iff_false}
 use Rattle.sched_file.specs.Schedule.{IsSchedule}
 use Rattle.haft_run.specs.Meaning.{Means, Told}
 use Rattle.haft_run.specs.Report.{report_of}
-use Rattle.haft_cli.specs.Command.{IsWithin, IsBuiltText, HasUpset, Checks}
+use Rattle.haft_cli.specs.Command.{IsWithin, IsAdmitted, HasUpset, Checks}
 use Rattle.haft_cli.specs.declared.command.Command.TheVariants.{Run}
 use Rattle.haft_cli.proofs.Files.{for_some}
 use Rattle.haft_cli.proofs.work.run_schedule.Goals as goal
@@ -11,7 +11,7 @@ use Rattle.haft_cli.proofs.work.run_schedule.Goals as goal
 pub returns-then-not-upset_free-clause-work : goal.returns-then-not-upset_free-clause-work
 returns-then-not-upset_free-clause-work c = λ first second first_within second_within checks schedule.
     c.refused.ensures.work Run (Some first) (Some second)
-    (refl, (for_some IsWithin first first_within, for_some IsWithin second second_within), for_some IsBuiltText first (c.args.a.now, checks.module_read, checks.accepted, c.requires.built), for_some HasUpset second (c.args.s.now, schedule, iff_false c.upset_free.ensures c.if-not-upset_free.true))
+    (refl, (for_some IsWithin first first_within, for_some IsWithin second second_within), for_some (IsAdmitted Run) first (c.args.a.now, checks.module_read, (checks.accepted, c.requires.built)), for_some HasUpset second (c.args.s.now, schedule, iff_false c.upset_free.ensures c.if-not-upset_free.true))
 
 pub returns-clause-work : goal.returns-clause-work
 returns-clause-work c = λ first second first_within second_within checks schedule.

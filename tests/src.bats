@@ -1,0 +1,186 @@
+#!/usr/bin/env bats
+# Tests of `src F S`: what runs of the source come to, as a user meets it.
+#
+# A file of src/ is a group of modules, each with schedules. Its first lines say what they are about; behind them each module has a
+# line `== NAME`, its own lines, and a line `-- SCHEDULE => REPORT`, where ` | ` stands between two lines of a schedule or of a
+# report. Reports were worked out by hand, from the rules.
+#
+# The program is crates/haft/out/haft, or $HAFT.
+
+setup() {
+    tests=$BATS_TEST_DIRNAME
+    program=$(realpath -e "${HAFT:-$tests/../crates/haft/out/haft}")
+    cd "$BATS_TEST_TMPDIR"
+}
+
+# answer WORD.. runs the program, and keeps what it writes and its status. The program has 60 seconds, and as many KiB of
+# address space as $memory says, if it is set.
+answer() {
+    status=0
+    (
+        [ -z "${memory:-}" ] || ulimit -v "$memory"
+        exec timeout 60 "$program" "$@"
+    ) >written 2>complaint || status=$?
+}
+
+# answered STATUS LINE..: the last answer had this status and wrote exactly these lines, and nothing on standard error.
+answered() {
+    local wanted=$1
+    shift
+    if [ "$#" -gt 0 ]; then printf '%s\n' "$@"; fi >wanted
+    if [ "$status" -ne "$wanted" ] || ! cmp -s written wanted || [ -s complaint ]; then
+        echo "status $status: $(head -c 300 written | tr '\n' '|')"
+        echo "wanted $wanted: $(tr '\n' '|' <wanted)"
+        return 1
+    fi
+}
+
+# lines_of TEXT: its lines, where ` | ` stands between two.
+lines_of() { sed 's/ | /\n/g' <<<"$1"; }
+
+# told SCHEDULE REPORT: module.ll under this schedule gives this report.
+told() {
+    lines_of "$1" >schedule
+    lines_of "$2" >report
+    answer src module.ll schedule
+    if [ "$status" -ne 0 ] || ! cmp -s written report || [ -s complaint ]; then
+        echo "status $status: $(head -c 300 written | tr '\n' '|')"
+        echo "wanted: $(tr '\n' '|' <report)"
+        return 1
+    fi
+}
+
+# all_told GROUP runs each module of a group, and names those of which something else is told.
+all_told() {
+    local line name='' count=0 failed=0 ask
+    while IFS= read -r line; do
+        case $line in
+            '== '*)
+                name=${line#== }
+                : >module.ll
+                ;;
+            '-- '*)
+                ask=${line#-- }
+                if ! told "${ask%% => *}" "${ask#* => }"; then
+                    echo "  of: $name"
+                    failed=$((failed + 1))
+                fi
+                count=$((count + 1))
+                ;;
+            *) printf '%s\n' "$line" >>module.ll ;;
+        esac
+    done <"$tests/src/$1.txt"
+    echo "$failed of $count failed"
+    [ "$count" -gt 0 ] && [ "$failed" -eq 0 ]
+}
+
+@test "branches, switches, phis, calls, returns and the stack" {
+    all_told control
+}
+
+@test "undefined operators" {
+    all_told undefined
+}
+
+@test "memory: where accesses are valid, how words stand, malloc" {
+    all_told memory
+}
+
+@test "threads, locks and the other externals" {
+    all_told threads
+}
+
+@test "atomic instructions" {
+    all_told atomics
+}
+
+@test "races, and which pair is told" {
+    all_told races
+}
+
+@test "the examples" {
+    local base
+    for base in counter race; do
+        answer src "$tests/../examples/$base.ll" "$tests/../examples/$base.sched"
+        [ "$status" -eq 0 ]
+        cmp written "$tests/../examples/$base.src.expected"
+    done
+}
+
+@test "the examples that run hardened, too, run from their source" {
+    answer src "$tests/../examples/sum.ll" "$tests/../examples/sum.sched"
+    [ "$status" -eq 0 ]
+}
+
+@test "src takes two files, neither one nor three" {
+    answer src
+    answered 2
+    answer src "$tests/../examples/sum.ll"
+    answered 2
+    answer src "$tests/../examples/sum.ll" "$tests/../examples/sum.sched" more
+    answered 2
+}
+
+@test "a module that isn't accepted is refused before the schedule is looked at" {
+    printf 'define i32 @main() {\n  ret i64 0\n}\n' >module.ll
+    echo "no schedule" >schedule
+    answer src module.ll schedule
+    answered 1 "refused module TypeMismatch main/0/0"
+    printf 'define i32 @main() {\n  ret i32 0\n}\n' >module.ll
+    answer src module.ll schedule
+    answered 1 "refused schedule 1"
+}
+
+@test "files that aren't there, and files that are too long" {
+    printf 'define i32 @main() {\n  ret i32 0\n}\n' >module.ll
+    echo "turn 0 1" >schedule
+    answer src missing.ll schedule
+    answered 3
+    answer src module.ll missing
+    answered 3
+    head -c 4194305 /dev/zero >long
+    answer src long schedule
+    answered 1 "refused long first"
+    answer src module.ll long
+    answered 1 "refused long second"
+}
+
+# A loop of four steps a round, the first behind one step.
+loop() {
+    cat <<'LL'
+define i32 @main() {
+entry:
+  br label %l
+l:
+  %i = phi i64 [ 0, %entry ], [ %j, %l ]
+  %j = add i64 %i, 1
+  %c = icmp ult i64 %j, 100000000
+  br i1 %c, label %l, label %d
+d:
+  ret i32 0
+}
+LL
+}
+
+@test "the greatest schedule" {
+    loop >module.ll
+    told "turn 0 4194304" "stop bound | src 0*4194304"
+}
+
+@test "the greatest schedule in 64 MiB of memory" {
+    loop >module.ll
+    memory=$((64 * 1024))
+    told "turn 0 4194304" "stop bound | src 0*4194304"
+}
+
+@test "where memory is short the answer is status 5 with nothing written" {
+    loop >module.ll
+    echo "turn 0 1000" >schedule
+    for mebibytes in 3 4 5 6 7 8 12 16 32; do
+        echo "$mebibytes MiB"
+        memory=$((mebibytes * 1024))
+        answer src module.ll schedule
+        [ "$status" -ne 0 ] || answered 0 "stop bound" "src 0*1000"
+        [ "$status" -eq 0 ] || [ ! -s written ]
+    done
+}
