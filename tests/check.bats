@@ -7,36 +7,12 @@
 #
 # The program is crates/haft/out/haft, or $HAFT.
 
-setup() {
-    tests=$BATS_TEST_DIRNAME
-    program=$(realpath -e "${HAFT:-$tests/../crates/haft/out/haft}")
-    cd "$BATS_TEST_TMPDIR"
-}
+load answers
+
+seconds=20
 
 # The most bytes that a file may have.
 greatest_size=4194304
-
-# answer WORD.. runs the program, and keeps what it writes and its status. The program has 20 seconds, and as many KiB of
-# address space as $memory says, if it is set.
-answer() {
-    status=0
-    (
-        [ -z "${memory:-}" ] || ulimit -v "$memory"
-        exec timeout 20 "$program" "$@"
-    ) >written 2>complaint || status=$?
-}
-
-# answered STATUS LINE..: the last answer had this status and wrote exactly these lines, and nothing on standard error.
-answered() {
-    local wanted=$1
-    shift
-    if [ "$#" -gt 0 ]; then printf '%s\n' "$@"; fi >wanted
-    if [ "$status" -ne "$wanted" ] || ! cmp -s written wanted || [ -s complaint ]; then
-        echo "status $status: $(head -c 200 written)"
-        echo "wanted $wanted: $(<wanted)"
-        return 1
-    fi
-}
 
 # told LINE: the last answer was this line, with the status that belongs to it.
 told() {

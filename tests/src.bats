@@ -7,33 +7,9 @@
 #
 # The program is crates/haft/out/haft, or $HAFT.
 
-setup() {
-    tests=$BATS_TEST_DIRNAME
-    program=$(realpath -e "${HAFT:-$tests/../crates/haft/out/haft}")
-    cd "$BATS_TEST_TMPDIR"
-}
+load answers
 
-# answer WORD.. runs the program, and keeps what it writes and its status. The program has 60 seconds, and as many KiB of
-# address space as $memory says, if it is set.
-answer() {
-    status=0
-    (
-        [ -z "${memory:-}" ] || ulimit -v "$memory"
-        exec timeout 60 "$program" "$@"
-    ) >written 2>complaint || status=$?
-}
-
-# answered STATUS LINE..: the last answer had this status and wrote exactly these lines, and nothing on standard error.
-answered() {
-    local wanted=$1
-    shift
-    if [ "$#" -gt 0 ]; then printf '%s\n' "$@"; fi >wanted
-    if [ "$status" -ne "$wanted" ] || ! cmp -s written wanted || [ -s complaint ]; then
-        echo "status $status: $(head -c 300 written | tr '\n' '|')"
-        echo "wanted $wanted: $(tr '\n' '|' <wanted)"
-        return 1
-    fi
-}
+seconds=60
 
 # lines_of TEXT: its lines, where ` | ` stands between two.
 lines_of() { sed 's/ | /\n/g' <<<"$1"; }
