@@ -4,3 +4,4 @@ pub mod TakenNames
 pub mod Kept
 pub mod Results
 pub mod Filling
+pub mod Filled

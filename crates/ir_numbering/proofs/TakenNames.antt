@@ -141,6 +141,12 @@ numbered_func-by text m tree table table' places f g start all taken renamed e =
     e ∙ ap (func_with text places) (renamed ∙ ap (λ (t : FuncParts). renamed_func (renaming_of text m t) tree) taken)
     ∙ ap (λ (ps : List Place). func_with text ps (renamed_func (renaming_of text m (func_with text ps table)) tree)) all ∙ numbered_func-is text m tree table start
 
+-- the names that a table took from no name on are those that another such table takes
+pub func_with-copied : (text : List ℕ) (places : List Place) (table table' f : FuncParts) → table.names ≡ [] → f.names ≡ [] → table' ≡ func_with text places table → record f { names = table'.names } ≡ func_with text places f
+func_with-copied text places table table' f start bare taken =
+    ap (λ names. record f { names = names })
+    (ap (λ (t : FuncParts). t.names) taken ∙ ap (λ names. with_names names (locals_at text places)) (start ∙ sym bare))
+
 -- a front in the module, and none in the function
 pub HasFront-outer : (text : List ℕ) (places all : List Place) (m m' : ModuleParts) (f : FuncParts) → places ≡ all → ModuleFront text places m m' → HasFront text all m f m' f
 HasFront-outer text places all m m' f e front = record { in_module = subst (λ ps. ModuleFront text ps m m') e front; in_func = FuncFront-none text all f }

@@ -25,6 +25,8 @@ pub use laws::{numbers_stay, only_tables_change, places_are_numbered};
 pub use numbering::{add_names, numbered, numbered_func, numbered_outside, places_of};
 pub use numbers::{Numbers, name_at};
 pub use places::{Place, Places};
-pub use tables::{has_local_room, has_room, number_in_func, number_in_module};
+pub use tables::{
+    add_module_names_of, add_names_of, has_local_room, has_room, number_in_func, number_in_module,
+};
 pub use trees::Numbered;
 pub use whole::numbered_module;

@@ -5,7 +5,7 @@
 ghost use Rattle.std.specs.Prelude.{◌≡◌, ◌+◌, ◌<◌, [], length, IfOk, OnOk, OnErr};
 ghost use Rattle.ir_numbering.specs.Numbers.{renaming_of, renaming_outside, module_with, func_with, numbered_func, ModuleFront, HasFront};
 
-use crate::tables::{has_local_room, has_room, number_in_func, number_in_module};
+use crate::tables::{add_names_of, has_local_room, has_room, number_in_func, number_in_module};
 use crate::{Numbered, Numbers, Place, Places};
 use ir_core::{Func, Module, Seq, Sym, Ty};
 use std::alloc::{AllocError, Global};
@@ -154,17 +154,17 @@ fn numbered_by(
         in_func: table,
     };
     let renamed = tree.renamed(&numbers, alloc)?;
-    let numbered = with_locals(renamed, places, text)?;
+    let numbered = with_names_of(renamed, table)?;
     Ok(numbered)
 }
 
-// The function once its table has the names of registers and labels at the places.
-fn with_locals(f: Func, places: &[Place], text: &[u8]) -> Result<Func, AllocError>
-    requires { length f.names + length places.now < 4294967295 }
-    ensures { IfOk result (λ g. g ≡ func_with text.now places.now f) }
+// The function, whose table is empty, once it has the names of another.
+fn with_names_of(f: Func, table: &Func) -> Result<Func, AllocError>
+    requires { f.names ≡ [] }
+    ensures { IfOk result (λ g. g ≡ record f { names = table.now.names }) }
 {
     let mut f = f;
-    match number_in_func(places, text, &mut f) {
+    match add_names_of(table, &mut f) {
         Ok(()) => Ok(f),
         Err(error) => {
             drop(f);

@@ -5,7 +5,7 @@ ghost use Rattle.ir_numbering.specs.Numbers.{module_with, func_with, ModuleFront
 
 use crate::Place;
 use crate::numbers::name_at;
-use ir_core::{Func, Module};
+use ir_core::{Func, Loc, Module, Sym, TypeId};
 use std::alloc::AllocError;
 
 /// Whether the name tables of a module have room for so many names more.
@@ -76,6 +76,59 @@ pub fn number_in_func(places: &[Place], text: &[u8], f: &mut Func) -> Result<(),
 {
     for place in places {
         take_in_func(*place, text, f)?;
+    }
+    Ok(())
+}
+
+// The `@` names of another module join a table that has none.
+fn add_syms_of(table: &Module, m: &mut Module) -> Result<(), AllocError>
+    requires { m.old.syms ≡ [] }
+    ensures { OnOk result (m.new ≡ record m.old { syms = table.now.syms }) }
+{
+    let count = table.sym_count();
+    let mut at = 0;
+    'names: while at < count {
+        m.sym(table.sym_name(Sym(at)))?;
+        at += 1;
+    }
+    Ok(())
+}
+
+// The names of another module's types join a table that has none.
+fn add_type_names_of(table: &Module, m: &mut Module) -> Result<(), AllocError>
+    requires { m.old.type_names ≡ [] }
+    ensures { OnOk result (m.new ≡ record m.old { type_names = table.now.type_names }) }
+{
+    let count = table.type_count();
+    let mut at = 0;
+    'names: while at < count {
+        m.type_id(table.type_name(TypeId(at)))?;
+        at += 1;
+    }
+    Ok(())
+}
+
+/// The names of another module join tables that have none: they become that module's tables, at one look-up a name.
+pub fn add_module_names_of(table: &Module, m: &mut Module) -> Result<(), AllocError>
+    requires syms { m.old.syms ≡ [] }
+    requires type_names { m.old.type_names ≡ [] }
+    ensures { OnOk result (m.new ≡ record m.old { syms = table.now.syms; type_names = table.now.type_names }) }
+{
+    add_syms_of(table, m)?;
+    add_type_names_of(table, m)?;
+    Ok(())
+}
+
+/// The names of another function join a table that has none: it becomes that other table, at one look-up a name.
+pub fn add_names_of(table: &Func, f: &mut Func) -> Result<(), AllocError>
+    requires { f.old.names ≡ [] }
+    ensures { OnOk result (f.new ≡ record f.old { names = table.now.names }) }
+{
+    let count = table.loc_count();
+    let mut at = 0;
+    'names: while at < count {
+        f.loc(table.loc_name(Loc(at)))?;
+        at += 1;
     }
     Ok(())
 }
