@@ -1,2 +1,13 @@
+pub mod Accepted
+pub mod Callees
+pub mod Ends
+pub mod Labels
 pub mod Locality
+pub mod Members
+pub mod Moves
+pub mod Placed
+pub mod ReadUses
+pub mod Reading
 pub mod Steps
+pub mod Suits
+pub mod Words

@@ -1,2 +1,3 @@
+pub mod Assigned
 pub mod Locality
 pub mod Steps

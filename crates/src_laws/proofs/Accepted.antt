@@ -1,0 +1,204 @@
+-- What holds of the lines of an accepted module.
+use Rattle.std.proofs.Common.{ℕ, zero, suc, ◌≡◌, ◌∙◌, ◌+◌, Bool, true, false, ◌||◌, not, List, [], ◌∷◌, ◌++◌, map, find, slice_get, Option, Some, None, refl, ap, sym, subst, arith, append_assoc, append-nil}
+use Rattle.std.specs.Prelude.{nat_eq, if◌then◌else◌}
+use Rattle.std.specs.List.{list_any}
+use Rattle.std.specs.Option.{option_map, option_or}
+use Rattle.std.proofs.lemmas.Grind.{flat_map-append}
+use Rattle.std.proofs.lemmas.List.Folds.{list_any-append}
+use Rattle.ir_core.proofs.Lengths.{both_true}
+use Rattle.ir_core.specs.declared.values.Declare.{Declare}
+use Rattle.ir_core.specs.declared.instruction.Inst.{Inst}
+use Rattle.ir_core.specs.declared.instruction.Block.{Block}
+use Rattle.ir_core.specs.Module.{ModuleParts, FuncParts}
+use Rattle.ir_lines.specs.declared.site.Site.{Site}
+use Rattle.ir_lines.specs.declared.site.Site.TheVariants.{Module}
+use Rattle.ir_lines.specs.declared.site.Named.{Named}
+use Rattle.ir_lines.specs.declared.site.Named.TheVariants as names
+use Rattle.ir_lines.specs.Lines.{Line, TypeLine, GlobalLine, DeclareLine, HeadLine, BlockLine, InstLine, site_of, inst_lines, block_lines, blocks_lines, func_lines, funcs_lines, code_lines, lines_of, first_break}
+use Rattle.ir_names.specs.Names.{same_name, definitions_in, definitions_of, definitions, first_again, duplicate}
+use Rattle.ir_calls.specs.Calls.{calls_keep, inst_keeps}
+use Rattle.ir_types.specs.Types.{types_keep}
+use Rattle.ir_check.specs.declared.fault.Kind.{Kind}
+use Rattle.ir_check.specs.declared.fault.Kind.TheVariants.{BadTerminator, BadCall, TypeMismatch, NoMain, EntryHasPredecessor}
+use Rattle.ir_check.specs.Blocks.{ends_well, begins_well, terminators_keep, entries_keep}
+use Rattle.ir_check.specs.Functions.{has_main}
+use Rattle.ir_check.specs.Faults.{Fault, IsAccepted, fault_at, rule_fault, duplicate_fault, unknown_fault, limit_fault, main_fault, shape_fault, code_fault}
+use Rattle.src_laws.proofs.Members.{IsIn, next-in, in-front, in-back, in-map, in-flat, any-in, passed-not, none-found}
+
+-- ---- rules
+
+neither : {A : Type 0} (x y : Option A) → option_or x y ≡ None → (x ≡ None) × (y ≡ None)
+neither None y e = (refl, e)
+neither (Some a) y e = cc
+
+no-image : {A B : Type 0} (f : A → B) (o : Option A) → option_map f o ≡ None → o ≡ None
+no-image f None e = refl
+no-image f (Some a) e = cc
+
+code-keeps : (m : ModuleParts) → IsAccepted m → code_fault m ≡ None
+code-keeps m accepted =
+    let named = neither (duplicate_fault m) (option_or (unknown_fault m) (option_or (limit_fault m) (code_fault m))) accepted.lines in
+    let known = neither (unknown_fault m) (option_or (limit_fault m) (code_fault m)) named.1 in
+    (neither (limit_fault m) (code_fault m) known.1).1
+
+kept : (m : ModuleParts) (kind : Kind) (keeps : Line → Bool) (line : Line) → rule_fault m kind keeps ≡ None → IsIn line (lines_of m)
+    → keeps line ≡ true
+kept m kind keeps line none here =
+    let nothing : find (λ line. not (keeps line)) (lines_of m) ≡ None = no-image site_of _ (no-image _ (first_break keeps (lines_of m)) none) in
+    passed-not (keeps line) (none-found (λ line. not (keeps line)) line (lines_of m) nothing here)
+
+-- ---- lines
+
+in-inst : (n : ℕ) (f : FuncParts) (b start i place : ℕ) (inst : Inst) (body : List Inst) → slice_get body i ≡ Some inst → place ≡ start + i
+    → IsIn (InstLine n f b place inst) (inst_lines n f b start body)
+in-inst n f b start i place inst [] at e = absurd cc
+in-inst n f b start zero place inst (x ∷ body) at e =
+    let same : x ≡ inst = cc in
+    let number : start ≡ place = omega arith in
+    (0, ap (λ (y : Inst). Some (InstLine n f b start y)) same ∙ ap (λ (k : ℕ). Some (InstLine n f b k inst)) number)
+in-inst n f b start (suc i) place inst (x ∷ body) at e =
+    next-in (InstLine n f b place inst) (InstLine n f b start x) (inst_lines n f b (start + 1) body) (in-inst n f b (start + 1) i place inst body at (omega arith))
+
+in-blocks : (n : ℕ) (f : FuncParts) (start b place : ℕ) (block : Block) (blocks : List Block) (line : Line) → slice_get blocks b ≡ Some block
+    → place ≡ start + b → IsIn line (block_lines n f place block) → IsIn line (blocks_lines n f start blocks)
+in-blocks n f start b place block [] line at e h = absurd cc
+in-blocks n f start zero place block (x ∷ blocks) line at e h =
+    let same : block ≡ x = cc in
+    let number : place ≡ start = omega arith in
+    let first : IsIn line (block_lines n f start x) = subst (λ (k : ℕ). IsIn line (block_lines n f k x)) number (subst (λ (y : Block). IsIn line (block_lines n f place y)) same h) in
+    in-front line (block_lines n f start x) (blocks_lines n f (start + 1) blocks) first
+in-blocks n f start (suc b) place block (x ∷ blocks) line at e h =
+    in-back line (block_lines n f start x) (blocks_lines n f (start + 1) blocks) (in-blocks n f (start + 1) b place block blocks line at (omega arith) h)
+
+in-funcs : (start n place : ℕ) (f : FuncParts) (funcs : List FuncParts) (line : Line) → slice_get funcs n ≡ Some f → place ≡ start + n
+    → IsIn line (func_lines place f) → IsIn line (funcs_lines start funcs)
+in-funcs start n place f [] line at e h = absurd cc
+in-funcs start zero place f (x ∷ funcs) line at e h =
+    let same : f ≡ x = cc in
+    let number : place ≡ start = omega arith in
+    let first : IsIn line (func_lines start x) = subst (λ (k : ℕ). IsIn line (func_lines k x)) number (subst (λ (y : FuncParts). IsIn line (func_lines place y)) same h) in
+    in-front line (func_lines start x) (funcs_lines (start + 1) funcs) first
+in-funcs start (suc n) place f (x ∷ funcs) line at e h =
+    in-back line (func_lines start x) (funcs_lines (start + 1) funcs) (in-funcs (start + 1) n place f funcs line at (omega arith) h)
+
+in-func : (m : ModuleParts) (n : ℕ) (f : FuncParts) (line : Line) → slice_get m.funcs n ≡ Some f → IsIn line (func_lines n f) → IsIn line (lines_of m)
+in-func m n f line at h =
+    let start : n ≡ 0 + n = omega arith in
+    in-back line (map TypeLine m.types ++ map GlobalLine m.globals) (code_lines m) (in-back line (map DeclareLine m.declares) (funcs_lines 0 m.funcs) (in-funcs 0 n n f m.funcs line at start h))
+
+in-block : (m : ModuleParts) (n b : ℕ) (f : FuncParts) (block : Block) (line : Line) → slice_get m.funcs n ≡ Some f
+    → slice_get f.blocks b ≡ Some block → IsIn line (block_lines n f b block) → IsIn line (lines_of m)
+in-block m n b f block line at there h =
+    let start : b ≡ 0 + b = omega arith in
+    in-func m n f line at (next-in line (HeadLine n f) (blocks_lines n f 0 f.blocks) (in-blocks n f 0 b b block f.blocks line there start h))
+
+-- ---- what is known of blocks, of instructions and of main
+
+pub block-ends : (m : ModuleParts) (n b : ℕ) (f : FuncParts) (block : Block) → IsAccepted m → slice_get m.funcs n ≡ Some f
+    → slice_get f.blocks b ≡ Some block → ends_well block.insts ≡ true
+block-ends m n b f block accepted at there =
+    let first = neither (rule_fault m BadTerminator terminators_keep) (option_or (rule_fault m BadCall (calls_keep m)) (option_or (rule_fault m TypeMismatch (types_keep m)) (shape_fault m))) (code-keeps m accepted) in
+    let here : IsIn (BlockLine n f b block) (lines_of m) = in-block m n b f block (BlockLine n f b block) at there (0, refl) in
+    (both_true (ends_well block.insts) (begins_well block.insts) (kept m BadTerminator terminators_keep (BlockLine n f b block) first.0 here)).0
+
+pub inst-calls : (m : ModuleParts) (n b i : ℕ) (f : FuncParts) (block : Block) (inst : Inst) → IsAccepted m → slice_get m.funcs n ≡ Some f
+    → slice_get f.blocks b ≡ Some block → slice_get block.insts i ≡ Some inst → inst_keeps m inst ≡ true
+inst-calls m n b i f block inst accepted at there stands =
+    let first = neither (rule_fault m BadTerminator terminators_keep) (option_or (rule_fault m BadCall (calls_keep m)) (option_or (rule_fault m TypeMismatch (types_keep m)) (shape_fault m))) (code-keeps m accepted) in
+    let second = neither (rule_fault m BadCall (calls_keep m)) (option_or (rule_fault m TypeMismatch (types_keep m)) (shape_fault m)) first.1 in
+    let line = InstLine n f b i inst in
+    let start : i ≡ 0 + i = omega arith in
+    let here : IsIn line (lines_of m) = in-block m n b f block line at there (next-in line (BlockLine n f b block) (inst_lines n f b 0 block.insts) (in-inst n f b 0 i i inst block.insts stands start)) in
+    kept m BadCall (calls_keep m) line second.0 here
+
+pub main-there : (m : ModuleParts) → IsAccepted m → has_main m ≡ true
+main-there m accepted =
+    let first = neither (rule_fault m BadTerminator terminators_keep) (option_or (rule_fault m BadCall (calls_keep m)) (option_or (rule_fault m TypeMismatch (types_keep m)) (shape_fault m))) (code-keeps m accepted) in
+    let second = neither (rule_fault m BadCall (calls_keep m)) (option_or (rule_fault m TypeMismatch (types_keep m)) (shape_fault m)) first.1 in
+    let third = neither (rule_fault m TypeMismatch (types_keep m)) (shape_fault m) second.1 in
+    by_test (has_main m) (fault_at m NoMain Module) (neither (main_fault m) (rule_fault m EntryHasPredecessor entries_keep) third.1).0
+  where
+    by_test : (b : Bool) (fault : Fault) → (if b then None else Some fault) ≡ None → b ≡ true
+    by_test true fault e = refl
+    by_test false fault e = cc
+
+-- ---- no name is defined twice
+
+-- a definition behind others isn't of a name that was defined before them
+fresh : (before : List Named) (defs : List (Site × Named)) (d : Site × Named) → first_again before defs ≡ None → IsIn d defs
+    → list_any (same_name d.1) before ≡ false
+fresh before [] d e (k, at) = absurd cc
+fresh before (x ∷ defs) d e (k, at) =
+    by_test (list_any (same_name x.1) before) refl k at (λ rest j there. fresh (before ++ x.1 ∷ []) defs d rest (j, there))
+  where
+    first : (a b : Bool) → (a || b) ≡ false → a ≡ false
+    first true b f = cc
+    first false b f = refl
+
+    by_test : (b : Bool) → list_any (same_name x.1) before ≡ b → (k : ℕ) → slice_get (x ∷ defs) k ≡ Some d
+        → (first_again (before ++ x.1 ∷ []) defs ≡ None → (j : ℕ) → slice_get defs j ≡ Some d → list_any (same_name d.1) (before ++ x.1 ∷ []) ≡ false)
+        → list_any (same_name d.1) before ≡ false
+    by_test true f k at rest = absurd (let clash : Some x ≡ None = rw f at e in cc)
+    by_test false f zero at rest = let same : x ≡ d = cc in rw (← same) f
+    by_test false f (suc k) at rest =
+        first (list_any (same_name d.1) before) (list_any (same_name d.1) (x.1 ∷ [])) (sym (list_any-append (same_name d.1) before (x.1 ∷ [])) ∙ rest (rw f at e) k at)
+
+again-back : (before : List Named) (xs ys : List (Site × Named)) → first_again before (xs ++ ys) ≡ None
+    → first_again (before ++ map (λ d. d.1) xs) ys ≡ None
+again-back before [] ys e = subst (λ (names : List Named). first_again names ys ≡ None) (sym (append-nil before)) e
+again-back before (x ∷ xs) ys e = by_test (list_any (same_name x.1) before) refl (again-back (before ++ x.1 ∷ []) xs ys)
+  where
+    by_test : (b : Bool) → list_any (same_name x.1) before ≡ b
+        → (first_again (before ++ x.1 ∷ []) (xs ++ ys) ≡ None → first_again ((before ++ x.1 ∷ []) ++ map (λ (d : Site × Named). d.1) xs) ys ≡ None)
+        → first_again (before ++ x.1 ∷ map (λ (d : Site × Named). d.1) xs) ys ≡ None
+    by_test true f rest = absurd (let clash : Some x ≡ None = rw f at e in cc)
+    by_test false f rest =
+        subst (λ (names : List Named). first_again names ys ≡ None) (append_assoc before (x.1 ∷ []) (map (λ (d : Site × Named). d.1) xs)) (rest (rw f at e))
+
+-- no function has the name of a declare
+pub declare-apart : (m : ModuleParts) (n : ℕ) (f : FuncParts) (declare : Declare) → IsAccepted m → slice_get m.funcs n ≡ Some f
+    → IsIn declare m.declares → nat_eq f.sym.0 declare.sym.0 ≡ false
+declare-apart m n f declare accepted at here = by_test (nat_eq f.sym.0 declare.sym.0) refl
+  where
+    front : List (Site × Named)
+    front = definitions_of (map TypeLine m.types ++ map GlobalLine m.globals)
+
+    declared : List (Site × Named)
+    declared = definitions_of (map DeclareLine m.declares)
+
+    written : List (Site × Named)
+    written = definitions_of (funcs_lines 0 m.funcs)
+
+    before : List Named
+    before = map (λ (d : Site × Named). d.1) front ++ map (λ (d : Site × Named). d.1) declared
+
+    parts : definitions m ≡ front ++ (declared ++ written)
+    parts =
+        flat_map-append definitions_in (map TypeLine m.types ++ map GlobalLine m.globals) (code_lines m) ∙ ap (λ (ds : List (Site × Named)). front ++ ds) (flat_map-append definitions_in (map DeclareLine m.declares) (funcs_lines 0 m.funcs))
+
+    alone : first_again before written ≡ None
+    alone =
+        let none : duplicate m ≡ None = no-image _ (duplicate m) (neither (duplicate_fault m) (option_or (unknown_fault m) (option_or (limit_fault m) (code_fault m))) accepted.lines).0 in
+        again-back (map (λ (d : Site × Named). d.1) front) declared written (again-back [] front (declared ++ written) (subst (λ (ds : List (Site × Named)). first_again [] ds ≡ None) parts none))
+
+    name : Site × Named
+    name = (site_of (HeadLine n f), names.Sym f.sym)
+
+    other : Site × Named
+    other = (site_of (DeclareLine declare), names.Sym declare.sym)
+
+    is-written : IsIn name written
+    is-written =
+        let start : n ≡ 0 + n = omega arith in
+        in-flat definitions_in (HeadLine n f) name (funcs_lines 0 m.funcs) (in-funcs 0 n n f m.funcs (HeadLine n f) at start (0, refl)) (0, refl)
+
+    is-declared : IsIn (names.Sym declare.sym) before
+    is-declared =
+        let there : IsIn other declared = in-flat definitions_in (DeclareLine declare) other (map DeclareLine m.declares) (in-map DeclareLine declare m.declares here) (0, refl) in
+        in-back (names.Sym declare.sym) (map (λ (d : Site × Named). d.1) front) (map (λ (d : Site × Named). d.1) declared) (in-map (λ (d : Site × Named). d.1) other declared there)
+
+    by_test : (b : Bool) → nat_eq f.sym.0 declare.sym.0 ≡ b → nat_eq f.sym.0 declare.sym.0 ≡ false
+    by_test false e = e
+    by_test true e =
+        let clash : true ≡ false = sym (any-in (same_name (names.Sym f.sym)) (names.Sym declare.sym) before is-declared e) ∙ fresh before written name alone is-written in
+        cc
