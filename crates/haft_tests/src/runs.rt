@@ -1,5 +1,6 @@
 //! Runs of whole texts.
 ghost use Rattle.std.specs.Prelude.{IsTrue};
+ghost use Rattle.ir_parse_top.specs.Text.{IsOfText};
 ghost use Rattle.haft_run.specs.Built.{IsBuilt};
 
 use haft_run::{RunResult, built, report, run, upset_free};
@@ -11,7 +12,9 @@ use std::alloc::Global;
 use std::process::Abort;
 
 /// The module of a text that has one.
-pub fn module_of(rt: &impl Abort, alloc: Global, text: &str) -> Module {
+pub fn module_of(rt: &impl Abort, alloc: Global, text: &str) -> Module
+    ensures { IsOfText result }
+{
     let bytes = text.as_bytes();
     assert!(rt; bytes.len() <= 4_194_304);
     match parse_module(alloc, bytes) {

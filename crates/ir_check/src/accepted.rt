@@ -5,6 +5,7 @@ ghost use Rattle.ir_layout.specs.Memory.{layout_of};
 ghost use Rattle.ir_types.specs.Meanings.{width_of};
 ghost use Rattle.ir_types.specs.Tables.{widths_of};
 ghost use Rattle.ir_check.specs.Faults.{IsAccepted, Refuses};
+ghost use Rattle.ir_parse_top.specs.Text.{IsOfText};
 
 use crate::fault::CheckError;
 use crate::flows::check_flows;
@@ -15,7 +16,7 @@ use ir_types::Widths;
 use std::alloc::Global;
 use std::marker::Model;
 
-/// A module without a fault, with its layout and the widths of its registers. Contracts see the module.
+/// The module of a text, without a fault, with its layout and the widths of its registers. Contracts see the module.
 #[derive(Drop)]
 pub struct Accepted {
     module: Module,
@@ -32,6 +33,7 @@ impl Model for Accepted {
     ghost use Rattle.ir_layout.specs.Memory.{layout_of};
     ghost use Rattle.ir_types.specs.Tables.{widths_of};
     ghost use Rattle.ir_check.specs.Faults.{IsAccepted};
+    ghost use Rattle.ir_parse_top.specs.Text.{IsOfText};
 
     ghost Value = { ModuleParts };
 
@@ -39,7 +41,7 @@ impl Model for Accepted {
 
     ghost view = { λ a. a.module };
 
-    ghost invariant = { λ a. IsAccepted a.module × (a.layout ≡ layout_of a.module) × (a.widths ≡ widths_of a.module) };
+    ghost invariant = { λ a. IsAccepted a.module × (a.layout ≡ layout_of a.module) × (a.widths ≡ widths_of a.module) × IsOfText a.module };
 }
 
 impl Accepted {
@@ -47,6 +49,7 @@ impl Accepted {
     pub fn module(&self) -> &Module
         ensures module { result.now ≡ self.now }
         ensures accepted { IsAccepted self.now }
+        ensures text { IsOfText self.now }
     {
         &self.module
     }
@@ -82,9 +85,10 @@ fn checked(alloc: Global, m: &Module) -> Result<(Layout, Widths), CheckError>
     Ok((layout, widths))
 }
 
-/// The module as an accepted one, or its first fault: of the first kind in the order of `Kind` of which there is one, and
+/// The module of a text as an accepted one, or its first fault: of the first kind in the order of `Kind` of which there is one, and
 /// of that kind at the first place. Then, and for want of memory, the module is dropped.
 pub fn accept(alloc: Global, m: Module) -> Result<Accepted, CheckError>
+    requires { IsOfText m }
     ensures accepted { OnOk result (IsAccepted m) }
     ensures module { IfOk result (λ a. a ≡ m) }
     ensures fault { IfErr result (λ e. Refuses m e) }

@@ -4,7 +4,7 @@
 -- Lines are read one after another. A line that is dropped at its place, or has no token, says nothing. Any
 -- other one says what its tokens stand for outside or inside functions. A `switch` may go over several lines: its tokens
 -- are those of all its lines.
-use Rattle.std.specs.Prelude.{ℕ, ◌≡◌, ◌⊎◌, ◌+◌, ◌&&◌, not, Bool, true, false, List, [], ◌∷◌, ◌++◌, length, map, codes, slice_get, max, fold, Option, Some, None}
+use Rattle.std.specs.Prelude.{ℕ, ◌≡◌, ◌≤◌, ◌⊎◌, ◌+◌, ◌&&◌, not, Bool, true, false, List, [], ◌∷◌, ◌++◌, length, map, codes, slice_get, max, fold, Option, Some, None}
 use Rattle.std.specs.List.{list_any}
 use Rattle.ir_core.specs.declared.text.Token.{Token}
 use Rattle.ir_core.specs.declared.text.LinePlace.{LinePlace}
@@ -150,6 +150,12 @@ pub record Text (text : List ℕ) (m : ModuleParts) : Type 0 where
   pub tree : ModuleParts
   pub read : HasTree text tree
   pub is : m ≡ numbered_module (with_numerals (numerals_for tree.funcs) text) tree
+
+-- some text of at most 4 MiB stands for the module
+pub record IsOfText (m : ModuleParts) : Type 0 where
+  pub text : List ℕ
+  pub short : length text ≤ 4194304
+  pub stands : Text text m
 
 -- Line n, counted from 1, is the first that fits no form at its place.
 abbrev pub Unfit : List ℕ → ℕ → Fault → Type 0

@@ -3,7 +3,7 @@ ghost use Rattle.std.specs.Prelude.{◌≡◌, ◌≤◌, ◌-◌, ◌++◌, ℕ
 ghost use Rattle.ir_core.specs.Module.{empty_module};
 ghost use Rattle.ir_numbering.specs.Numbers.{numbered_module};
 ghost use Rattle.ir_parse_top.specs.Sheet.{Outside, with_top, numeral, with_numerals};
-ghost use Rattle.ir_parse_top.specs.Text.{Text, Unfit, numerals_for};
+ghost use Rattle.ir_parse_top.specs.Text.{Text, Unfit, numerals_for, IsOfText};
 ghost use Rattle.ir_parse_top.specs.Laws.{instruction_count};
 ghost use Rattle.ir_parse_top.specs.Text as texts;
 ghost use Rattle.ir_parse_top.specs.Reading.{Follows, FindsAll, TripsFrom, Told};
@@ -147,6 +147,7 @@ pub fn parse_module(alloc: Global, bytes: &[u8]) -> Result<Module, ParseError>
         → IsErrOf result (Refused line word) → Unfit bytes.now line (texts.BadWord word) }
     ensures bad_byte { (line col : ℕ)
         → IsErrOf result (BadByte line col) → Unfit bytes.now line (texts.BadByte col) }
+    ensures of_text { IfOk result IsOfText }
     ensures small { IfOk result (λ m. instruction_count m ≤ 4194304) }
 {
     let mut tree = Module::new(alloc);
