@@ -5,7 +5,7 @@ use Rattle.ir_core.specs.declared.values.Val.{Val}
 use Rattle.ir_core.specs.declared.values.Val.TheVariants as values
 use Rattle.ir_core.specs.declared.instruction.Inst.{Inst}
 use Rattle.hard_ir.specs.declared.instruction.HInst.{HInst}
-use Rattle.hard_ir.specs.Image.{check, checks, checked, is_doubled, done_by, doubled, image, images}
+use Rattle.haft_run.specs.Images.{check, checks, checked, is_doubled, done_by, doubled, image, images}
 use Rattle.std.proofs.lemmas.List.{at_drop_more}
 
 pub check-append : (ty : Ty) (value : Val) (rest : List HInst) → check ty value [] ++ rest ≡ check ty value rest

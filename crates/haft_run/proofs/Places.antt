@@ -4,7 +4,7 @@ use Rattle.std.specs.Option.{option_map}
 use Rattle.std.proofs.lemmas.Option.{slice_get-map}
 use Rattle.ir_core.specs.declared.instruction.Block.{Block}
 use Rattle.ir_core.specs.Module.{ModuleParts, FuncParts}
-use Rattle.hard_ir.specs.Image.{images, hardened}
+use Rattle.haft_run.specs.Images.{images, hardened}
 use Rattle.haft_run.specs.Source as source
 use Rattle.haft_run.specs.Hard as hard
 use Rattle.haft_run.specs.Turns.{hardened_function, hardened_functions}

@@ -12,7 +12,7 @@ use Rattle.ir_action.specs.declared.actions.Action.TheVariants.{Assign}
 use Rattle.ir_action.specs.Action.{action_of, destination}
 use Rattle.hard_ir.specs.declared.instruction.HInst.{HInst}
 use Rattle.hard_ir.specs.declared.instruction.HInst.TheVariants.{Do}
-use Rattle.hard_ir.specs.Image.{unflagged, doubled, checked, checks, images}
+use Rattle.haft_run.specs.Images.{unflagged, doubled, checked, checks, images}
 use Rattle.haft_run.specs.declared.outcome.Stop.TheVariants.{End}
 use Rattle.haft_run.specs.declared.state.Frame.{Frame}
 use Rattle.haft_run.specs.declared.state.Thread.{Thread}

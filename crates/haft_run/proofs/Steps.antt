@@ -26,7 +26,7 @@ use Rattle.ir_action.specs.Action.{action_of, destination, word_of, word_at, int
 use Rattle.hard_ir.specs.declared.instruction.HInst.{HInst}
 use Rattle.hard_ir.specs.declared.instruction.HInst.TheVariants.{Do, Chk}
 use Rattle.hard_ir.specs.declared.instruction.When.TheVariants.{Always}
-use Rattle.hard_ir.specs.Image.{unflagged, is_doubled, doubled, checked, checks, images}
+use Rattle.haft_run.specs.Images.{unflagged, is_doubled, doubled, checked, checks, images}
 use Rattle.haft_run.specs.declared.state.Frame.{Frame}
 use Rattle.haft_run.specs.declared.state.Thread.TheVariants.{Running, Exiting}
 use Rattle.haft_run.specs.Source as source

@@ -10,7 +10,7 @@ use Rattle.op_table.specs.Operators.{bits, binary, is_divide, is_poison}
 use Rattle.ir_action.specs.declared.actions.Callee.{Callee}
 use Rattle.ir_action.specs.declared.actions.Action.TheVariants.{Assign}
 use Rattle.ir_action.specs.Action.{action_of, destination, on_word, operated, word_at}
-use Rattle.hard_ir.specs.Image.{no_flags, unflagged}
+use Rattle.haft_run.specs.Images.{no_flags, unflagged}
 use Rattle.haft_run.proofs.Agreement.{Agrees, action_of-Agrees}
 
 first_part : (x y : Bool) → x ≡ false → y ≡ false → (x || y) ≡ false

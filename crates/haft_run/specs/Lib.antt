@@ -1,5 +1,6 @@
 pub mod Source
 pub mod Hard
+pub mod Images
 pub mod Turns
 pub mod Report
 pub mod Meaning

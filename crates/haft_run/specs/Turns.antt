@@ -3,7 +3,7 @@ use Rattle.std.specs.Prelude.{List, unwrap_or, map}
 use Rattle.ir_core.specs.Module.{ModuleParts, FuncParts}
 use Rattle.turn_runs.specs.Runs.{grouped}
 use Rattle.hard_ir.specs.declared.instruction.HBlock.{HBlock}
-use Rattle.hard_ir.specs.Image.{hardened}
+use Rattle.haft_run.specs.Images.{hardened}
 use Rattle.haft_run.specs.declared.outcome.Stop.TheVariants.{Bound}
 use Rattle.haft_run.specs.declared.outcome.RunResult.{RunResult}
 use Rattle.haft_run.specs.Hard.{Machine, Event, opening, run_from}

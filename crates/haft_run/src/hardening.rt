@@ -1,9 +1,10 @@
-//! Hardening, column by column: the checks of an instruction's operands, then its master and its shadow.
+//! Hardening of built modules, for the machine of one thread: the checks of an instruction's operands, then its master and its
+//! shadow.
 //!
-//! The image of an instruction is that of `hard_ir`'s `specs/Image.antt`. It is written straight into the
-//! hardened block, so that only one list of hardened instructions is alive.
+//! The image of an instruction is that of `specs/Images.antt`. It is written straight into the hardened block, so that only one list of
+//! hardened instructions is alive.
 ghost use Rattle.std.specs.Prelude.{◌≡◌, ◌++◌, [], ◌∷◌, IfOk, OnOk, map};
-ghost use Rattle.hard_ir.specs.Image.{no_flags, doubled, checked, check, checks, image, images, hardened};
+ghost use Rattle.haft_run.specs.Images.{no_flags, doubled, checked, check, checks, image, images, hardened};
 ghost use Rattle.haft_run.specs.Turns.{hardened_function, hardened_functions};
 
 use hard_ir::{HBlock, HBlocks, HFuncs, HInst, HInsts, When};
@@ -166,7 +167,7 @@ fn harden_function(alloc: Global, function: &Func) -> Result<HBlocks, AllocError
 }
 
 /// The hardened functions of a module.
-pub fn harden(alloc: Global, m: &Module) -> Result<HFuncs, AllocError>
+pub fn harden_built(alloc: Global, m: &Module) -> Result<HFuncs, AllocError>
     ensures { IfOk result (λ functions. functions ≡ hardened_functions m.now) }
 {
     let mut functions = Seq::new(alloc);

@@ -7,7 +7,7 @@ ghost use Rattle.haft_run.specs.Built.{IsBuilt};
 ghost use Rattle.haft_run.specs.Schedule.{IsUpsetFree, machine_events};
 
 use crate::RunResult;
-use crate::hardening::harden;
+use crate::hardening::harden_built;
 use crate::machine::Machine;
 use ir_action::callees_of;
 use ir_check::Accepted;
@@ -29,7 +29,7 @@ pub fn run(alloc: Global, a: &Accepted, s: &Schedule) -> Result<RunResult, Alloc
 {
     let m = a.module();
     let callees = callees_of(alloc, m)?;
-    let hardened = harden(alloc, m)?;
+    let hardened = harden_built(alloc, m)?;
     let functions = hardened.items();
     let mut machine = Machine::new(alloc);
     let mut cursor = s.cursor();

@@ -1,1 +1,4 @@
+pub mod Facts
+pub mod Fit
+pub mod Hardened
 pub mod Image

@@ -1,10 +1,15 @@
 //! Hardened modules: the master and the shadow flow of a program, the checks between them, and the
 //! marks of its transactions, as plain data.
 //!
-//! What is hardened out of an instruction, its image, is defined in `specs/Image.antt`; the passes and
-//! the machine above this crate cite it.
+//! What is hardened out of an instruction, its image, and the hardened module of a table are defined in `specs/Image.antt` and
+//! `specs/Hardened.antt`; the passes and the machine above this crate cite them. `Hardened` is a hardened module with its layout and
+//! the widths of its registers; what holds of each one, and how wide its registers are, is in `specs/Facts.antt`.
 #![tactic(auto)]
 
+mod copying;
+mod hardened;
 mod instruction;
+mod widths;
 
+pub use hardened::Hardened;
 pub use instruction::{HBlock, HBlocks, HFuncs, HInst, HInsts, HPhis, HReg, HVal, When};

@@ -1,11 +1,15 @@
-//! Benchmarks of the readers: the program cuts each line of a file into tokens, copies the file's bytes one by one, or
-//! reads the file as a module, and prints how many tokens, bytes or instructions there were. Its words are the file's name
-//! and, for the copy, `copy`, or for the module, `module`. `bench/lex.sh` and `bench/parse.sh` compare the times.
+//! Benchmarks of the readers and of the passes: the program cuts each line of a file into tokens, copies the file's bytes one by one,
+//! reads the file as a module, or checks and hardens that, and prints how many tokens, bytes, instructions or hardened instructions
+//! there were. Its words are the file's name and `copy`, `module`, `check`, `harden` or none. `bench/lex.sh`, `bench/parse.sh` and
+//! `bench/harden.sh` compare the times.
 #![tactic(auto)]
 
 ghost use Rattle.std.specs.Prelude.{◌≡◌, ◌≤◌, IfOk, length};
 
 use haft_io::{FileInputs, Which, read_whole};
+use haft_run::harden;
+use hard_ir::HBlock;
+use ir_check::{Accepted, accept};
 use ir_core::Func;
 use ir_lex::{LexError, lex_line, split_line};
 use ir_parse_top::parse_module;
@@ -62,6 +66,50 @@ fn module_count(alloc: Global, text: &[u8]) -> Option<usize>
     Some(count)
 }
 
+/// The accepted module of a text; nothing where it has none.
+fn accepted(alloc: Global, text: &[u8]) -> Option<Accepted>
+    requires { length text.now ≤ 4194304 }
+{
+    let m = parse_module(alloc, text).ok()?;
+    accept(alloc, m).ok()
+}
+
+/// How many functions the accepted module of a text has; nothing where it has none.
+fn accepted_count(alloc: Global, text: &[u8]) -> Option<usize>
+    requires { length text.now ≤ 4194304 }
+{
+    let accepted = accepted(alloc, text)?;
+    let count = accepted.module().funcs().len();
+    drop(accepted);
+    Some(count)
+}
+
+/// How many hardened instructions stand in these blocks.
+fn block_count(blocks: &[HBlock]) -> usize {
+    let mut count: usize = 0;
+    for block in blocks {
+        count = count.saturating_add(block.list.items().len());
+    }
+    count
+}
+
+/// How many hardened instructions the hardened module of a text has, phis not counted; nothing where it has none.
+fn hardened_count(alloc: Global, text: &[u8]) -> Option<usize>
+    requires { length text.now ≤ 4194304 }
+{
+    let accepted = accepted(alloc, text)?;
+    let hardened = harden(alloc, &accepted).ok();
+    drop(accepted);
+    let (heads, funcs) = hardened?.take();
+    drop(heads);
+    let mut count: usize = 0;
+    for blocks in funcs.items() {
+        count = count.saturating_add(block_count(blocks.items()));
+    }
+    drop(funcs);
+    Some(count)
+}
+
 /// What the words ask for; nothing where a file can't be read, a line has a bad byte or memory runs out.
 fn count<'a, R: Files + AllocGlobal>(rt: &'a R, words: &'a [String]) -> Option<usize> {
     let name = words.first().map(|word| word.as_str());
@@ -70,6 +118,8 @@ fn count<'a, R: Files + AllocGlobal>(rt: &'a R, words: &'a [String]) -> Option<u
     match words.get(1) {
         Some(word) if word.as_str() == "copy" => copied_count(rt.alloc(), &text).ok(),
         Some(word) if word.as_str() == "module" => module_count(rt.alloc(), &text),
+        Some(word) if word.as_str() == "check" => accepted_count(rt.alloc(), &text),
+        Some(word) if word.as_str() == "harden" => hardened_count(rt.alloc(), &text),
         _ => token_count(rt.alloc(), &text).ok(),
     }
 }

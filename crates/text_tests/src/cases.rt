@@ -1,7 +1,8 @@
 //! Tables of texts, with answers worked out by hand. In a table each case is a line `== NAME`, the lines of its text, and a
-//! line `-- WANTED`.
+//! line `-- WANTED`, where what is wanted may go on over lines.
 use crate::checked::verdict;
 use crate::flows::{told_edges, told_flow};
+use crate::hardened::{Columns, told_hardened};
 use crate::laid::{Measured, told_known, told_layout};
 use std::alloc::Global;
 use std::process::Abort;
@@ -19,6 +20,8 @@ pub enum Asked {
     Known,
     /// Sizes, addresses or offsets.
     Measured(Measured),
+    /// The hardened module by these columns.
+    Hardened(Columns),
 }
 
 /// The answer for a text.
@@ -29,6 +32,7 @@ fn answer(rt: &impl Abort, alloc: Global, text: &str, asked: Asked) -> String {
         Asked::Flow => told_flow(rt, alloc, text),
         Asked::Known => told_known(rt, alloc, text),
         Asked::Measured(what) => told_layout(rt, alloc, text, what),
+        Asked::Hardened(columns) => told_hardened(rt, alloc, text, columns),
     }
 }
 

@@ -1,5 +1,5 @@
 //! Tests of whole texts: what they stand for, and the first line that fits no form; what the checker and the layers below it
-//! tell of their modules. Tables of texts are constants; `cases.rt` says how those of the checker and its layers are written.
+//! tell of their modules, and what they are hardened to. Tables of texts are constants; `cases.rt` says how those of the checker and its layers are written.
 #![tactic(auto)]
 
 #[cfg(test)]
@@ -8,6 +8,8 @@ mod cases;
 mod checked;
 #[cfg(test)]
 mod flows;
+#[cfg(test)]
+mod hardened;
 #[cfg(test)]
 mod laid;
 #[cfg(test)]

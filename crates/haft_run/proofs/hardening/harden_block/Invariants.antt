@@ -1,5 +1,5 @@
 use Rattle.std.proofs.Common.{◌≡◌, ◌++◌, drop}
-use Rattle.hard_ir.specs.Image.{images}
+use Rattle.haft_run.specs.Images.{images}
 use Rattle.haft_run.proofs.hardening.harden_block.Given as goal
 
 -- the images so far and those of the rest are those of all

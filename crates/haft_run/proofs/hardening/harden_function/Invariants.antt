@@ -1,5 +1,5 @@
 use Rattle.std.proofs.Common.{◌≡◌, ◌++◌, drop, map}
-use Rattle.hard_ir.specs.Image.{hardened}
+use Rattle.haft_run.specs.Images.{hardened}
 use Rattle.haft_run.proofs.hardening.harden_function.Given as goal
 
 -- the blocks so far and those of the rest are all

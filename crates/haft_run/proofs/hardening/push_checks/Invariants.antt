@@ -1,5 +1,5 @@
 use Rattle.std.proofs.Common.{◌≡◌, ◌++◌, [], drop}
-use Rattle.hard_ir.specs.Image.{checks}
+use Rattle.haft_run.specs.Images.{checks}
 use Rattle.haft_run.proofs.hardening.push_checks.Given as goal
 
 -- the checks so far and those of the rest are those of all

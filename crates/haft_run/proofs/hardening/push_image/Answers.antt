@@ -1,5 +1,5 @@
 use Rattle.std.proofs.Common.{[], ◌++◌, ap, ◌∙◌, append_assoc}
-use Rattle.hard_ir.specs.Image.{checked, doubled, checks}
+use Rattle.haft_run.specs.Images.{checked, doubled, checks}
 use Rattle.haft_run.proofs.Images.{checks-append}
 use Rattle.haft_run.proofs.hardening.push_image.Goals as goal
 

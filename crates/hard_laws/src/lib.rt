@@ -1,0 +1,6 @@
+//! Laws of hardened modules (`hard_ir`), which the passes above it stand on. The functions do nothing; their clauses are the laws.
+#![tactic(auto)]
+
+mod laws;
+
+pub use laws::accepted_modules_fit;
