@@ -1,5 +1,5 @@
 -- Turns as maximal runs.
-use Rattle.std.specs.Prelude.{ℕ, suc, ◌==◌, List, [], ◌∷◌, ◌++◌, if◌then◌else◌, replicate}
+use Rattle.std.specs.Prelude.{ℕ, zero, suc, ◌==◌, List, [], ◌∷◌, ◌++◌, if◌then◌else◌, replicate}
 use Rattle.ir_core.specs.declared.types.Tid.{Tid}
 
 -- a turn before turns that are grouped
@@ -17,6 +17,17 @@ abbrev pub added : ℕ → List (Tid × ℕ) → List (Tid × ℕ)
 added t [] = (record { 0 = t }, 1) ∷ []
 added t (run ∷ []) = if t == run.0.0 then (run.0, suc run.1) ∷ [] else run ∷ (record { 0 = t }, 1) ∷ []
 added t (run ∷ next ∷ runs) = run ∷ added t (next ∷ runs)
+
+-- runs once the last of their turns is taken back
+abbrev pub shorter : Tid × ℕ → List (Tid × ℕ)
+shorter (t, zero) = []
+shorter (t, suc zero) = []
+shorter (t, suc (suc n)) = (t, suc n) ∷ []
+
+abbrev pub shortened : List (Tid × ℕ) → List (Tid × ℕ)
+shortened [] = []
+shortened (run ∷ []) = shorter run
+shortened (run ∷ next ∷ runs) = run ∷ shortened (next ∷ runs)
 
 -- the turns for which runs of turns stand
 abbrev pub turns_of : List (Tid × ℕ) → List ℕ

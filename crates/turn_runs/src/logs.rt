@@ -1,6 +1,6 @@
 //! Turns in order, kept as maximal runs.
-ghost use Rattle.std.specs.Prelude.{◌≡◌, ◌+◌, ◌<◌, ◌^◌, ◌∷◌, [], ◌++◌, length, OnOk, OnErr};
-ghost use Rattle.turn_runs.specs.Runs.{grouped, turns_of, added};
+ghost use Rattle.std.specs.Prelude.{◌≡◌, ◌+◌, ◌-◌, ◌<◌, ◌^◌, ◌∷◌, [], ◌++◌, length, take, OnOk, OnErr};
+ghost use Rattle.turn_runs.specs.Runs.{grouped, turns_of, added, shortened};
 
 use ir_core::{Seq, Tid, Turns};
 use std::alloc::{AllocError, Global};
@@ -39,6 +39,22 @@ fn add_turn(runs: &mut Vec<(Tid, u64)>, tid: Tid) -> Result<(), AllocError>
     Ok(())
 }
 
+/// Takes the last turn of runs back, where there is one.
+fn remove_turn(runs: &mut Vec<(Tid, u64)>)
+    ensures { runs.new.items ≡ shortened runs.old.items }
+{
+    let count = runs.len();
+    if count == 0 {
+        return;
+    }
+    let last = runs[count - 1];
+    if last.1 > 1 {
+        runs[count - 1] = (last.0, last.1 - 1);
+    } else {
+        let _ = runs.pop();
+    }
+}
+
 impl TurnLog {
     /// No turn. It takes no memory.
     pub fn new(alloc: Global) -> TurnLog
@@ -57,6 +73,13 @@ impl TurnLog {
     {
         add_turn(&mut self.runs, tid)?;
         Ok(())
+    }
+
+    /// Takes the last turn back, where there is one.
+    pub fn take_back(&mut self)
+        ensures { self.new ≡ take (length self.old - 1) self.old }
+    {
+        remove_turn(&mut self.runs);
     }
 
     /// The turns as maximal runs.

@@ -1,0 +1,6 @@
+mod Locals
+mod Outsides
+mod Phis
+mod Resumed
+mod Settling
+mod Tables

@@ -1,0 +1,9 @@
+pub mod Asking
+pub mod Frames
+pub mod Labels
+pub mod Landing
+pub mod Places
+pub mod State
+pub mod Step
+pub mod Telling
+pub mod Runs
