@@ -16,7 +16,7 @@ use crate::programs::Program;
 use crate::{Aborts, RunResult, Stop, Thread};
 use hard_ir::Hardened;
 use inst_meaning::Action;
-use ir_core::{Loc, Name, Seq, Side, Tid};
+use ir_core::{Loc, Name, Side, Tid};
 use sched_file::Event;
 use src_meaning::Step;
 use std::alloc::{AllocError, Global};
@@ -274,14 +274,18 @@ impl<'a> Machine<'a> {
         }
     }
 
-    /// What the run has come to.
-    pub fn result(self) -> Result<RunResult, AllocError>
-        ensures { IfOk result (λ r. r ≡ result_of self.entry.state) }
+    /// What the run has come to. It takes no memory.
+    pub fn result(self) -> RunResult
+        ensures { result ≡ result_of self.entry.state }
     {
-        let outs = Vec::from_slice(self.alloc, self.process.outputs())?;
-        let Machine { turns, stop, .. } = self;
-        Ok(RunResult {
-            outs: Seq::from_vec(outs),
+        let Machine {
+            process,
+            turns,
+            stop,
+            ..
+        } = self;
+        RunResult {
+            outs: process.into_outputs(),
             aborts: Aborts {
                 explicit: 0,
                 conflict: 0,
@@ -290,6 +294,6 @@ impl<'a> Machine<'a> {
             },
             stop: stop.unwrap_or(Stop::Bound),
             turns: turns.into_runs(),
-        })
+        }
     }
 }

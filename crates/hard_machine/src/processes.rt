@@ -16,7 +16,7 @@ use crate::orders::Order;
 use crate::programs::Program;
 use crate::{CallStack, Thread};
 use inst_meaning::{Action, Cause, Reply, Request, World};
-use ir_core::{Loc, Out, Side, Tid};
+use ir_core::{Loc, Outs, Side, Tid};
 use mem_image::{Image, Size};
 use src_meaning::Step;
 use std::alloc::{AllocError, Global};
@@ -225,11 +225,12 @@ impl Process {
         })
     }
 
-    /// What the program has given out so far.
-    pub(crate) fn outputs(&self) -> &[Out]
-        ensures { result.now ≡ self.now.world.outputs }
+    /// What the program has given out. It takes no memory.
+    pub(crate) fn into_outputs(self) -> Outs
+        ensures { result ≡ self.entry.world.outputs }
     {
-        self.world.outputs()
+        let Process { world, .. } = self;
+        world.into_outputs()
     }
 
     /// The thread of a number, where it was made.

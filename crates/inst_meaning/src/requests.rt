@@ -61,6 +61,14 @@ impl World {
         self.outputs.as_slice()
     }
 
+    /// What the run gave out. It takes no memory.
+    pub fn into_outputs(self) -> Outs
+        ensures { result ≡ self.entry.outputs }
+    {
+        let World { outputs, .. } = self;
+        Seq::from_vec(outputs)
+    }
+
     // Gives something out, and the call's result is a word.
     fn give_out(
         &mut self,
