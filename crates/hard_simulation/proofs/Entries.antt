@@ -7,7 +7,7 @@ use Rattle.ir_core.specs.declared.types.Loc.{Loc}
 use Rattle.ir_core.specs.declared.values.Side.TheVariants.{M, S}
 use Rattle.ir_core.specs.declared.instruction.Block.{Block}
 use Rattle.ir_core.specs.Module.{ModuleParts, FuncParts}
-use Rattle.ir_action.specs.Registers.{get}
+use Rattle.inst_meaning.specs.Registers.{get}
 use Rattle.inst_meaning.specs.Phis.{all_assigned}
 use Rattle.inst_laws.proofs.Agreement.{put-agrees, agree-refl}
 use Rattle.inst_laws.specs.Agreement.{Agree}

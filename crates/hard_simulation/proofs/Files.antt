@@ -6,7 +6,7 @@ use Rattle.std.specs.List.{list_any, zip}
 use Rattle.std.specs.Option.{is_some}
 use Rattle.ir_core.specs.declared.types.Ty.{Ty}
 use Rattle.ir_core.specs.declared.types.Loc.{Loc}
-use Rattle.ir_action.specs.Registers.{get, put}
+use Rattle.inst_meaning.specs.Registers.{get, put}
 use Rattle.inst_meaning.specs.Phis.{all_assigned}
 use Rattle.inst_laws.specs.Agreement.{Agree}
 

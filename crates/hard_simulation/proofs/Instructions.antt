@@ -16,7 +16,7 @@ use Rattle.ir_layout.specs.Memory.{LayoutParts}
 use Rattle.ir_flow.specs.Uses.{reg_in, reg_in_arg, regs_in}
 use Rattle.ir_calls.specs.declared.externals.External.{External}
 use Rattle.ir_calls.specs.declared.externals.External.TheVariants.{PthreadCreate, PthreadJoin, MutexLock, MutexUnlock, Putchar, Exit as ExitProgram, Malloc, Free as FreeMemory, HaftOut, HaftArg}
-use Rattle.ir_action.specs.Registers.{get}
+use Rattle.inst_meaning.specs.Registers.{get}
 use Rattle.inst_meaning.specs.declared.actions.Callee.{Callee}
 use Rattle.inst_meaning.specs.declared.actions.Callee.TheVariants.{Defined, Outside, Unknown}
 use Rattle.inst_meaning.specs.declared.actions.Cause.TheVariants.{Unreachable}

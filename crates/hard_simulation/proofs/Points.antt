@@ -11,7 +11,7 @@ use Rattle.ir_core.specs.declared.values.Side.TheVariants.{M, S}
 use Rattle.ir_core.specs.declared.instruction.Inst.{Inst}
 use Rattle.ir_core.specs.Module.{ModuleParts}
 use Rattle.ir_layout.specs.Memory.{layout_of}
-use Rattle.ir_action.specs.Registers.{put}
+use Rattle.inst_meaning.specs.Registers.{put}
 use Rattle.inst_meaning.specs.declared.actions.Action.TheVariants.{Assign}
 use Rattle.inst_meaning.specs.Action.{action_of, callees_of, destination}
 use Rattle.inst_laws.specs.Agreement.{Agree}

@@ -15,7 +15,7 @@ use Rattle.ir_core.specs.declared.instruction.Inst.TheVariants as insts
 use Rattle.ir_core.specs.declared.instruction.Block.{Block}
 use Rattle.ir_core.specs.Module.{ModuleParts, FuncParts}
 use Rattle.ir_layout.specs.Memory.{LayoutParts, layout_of}
-use Rattle.ir_action.specs.Registers.{get, put}
+use Rattle.inst_meaning.specs.Registers.{get, put}
 use Rattle.ir_check.specs.Faults.{IsAccepted}
 use Rattle.inst_meaning.specs.declared.actions.Callee.{Callee}
 use Rattle.inst_meaning.specs.declared.actions.Cause.{Cause}

@@ -3,7 +3,7 @@ use Rattle.std.proofs.Common.{ℕ, zero, suc, ◌≡◌, ◌∙◌, Bool, true, 
 use Rattle.ir_core.specs.declared.types.Loc.{Loc}
 use Rattle.ir_core.specs.Module.{ModuleParts}
 use Rattle.inst_meaning.specs.declared.actions.Cause.{Cause}
-use Rattle.ir_action.specs.Registers.{get}
+use Rattle.inst_meaning.specs.Registers.{get}
 use Rattle.sched_file.specs.Events.{Happening, TurnOf, AbortOf, UpsetBy}
 use Rattle.src_meaning.specs.declared.state.Step.{Step}
 use Rattle.src_meaning.specs.declared.state.Step.TheVariants.{Went, Waits, Idle, Undefined, Ended}
