@@ -63,7 +63,7 @@ impl World {
 
     /// What the run gave out. It takes no memory.
     pub fn into_outputs(self) -> Outs
-        ensures { result ≡ self.entry.outputs }
+        ensures { result ≡ self.outputs }
     {
         let World { outputs, .. } = self;
         Seq::from_vec(outputs)
