@@ -2,8 +2,8 @@
 # How many steps of the source `haft src` does in a second, and how much memory a run takes, beside LLVM's interpreter where that is
 # installed (`lli --force-interpreter`, which without `--jit-kind=mcjit` would be the compiler).
 #
-# Makes three modules that each take nearly 4,194,304 steps with one thread: a loop of sums, one with memory, one with calls; and a loop in
-# each of 64 threads, which take their turns one after another. Prints the least of five whole runs. The program is
+# Runs three modules that each take nearly 4,194,304 steps with one thread: a loop of sums, one with memory, one with calls; and a loop in
+# each of 64 threads, which take their turns one after another (loop_shapes.py). Prints the least of five whole runs. The program is
 # crates/haft/out/haft, or $HAFT; it is proved and built first where it is missing (`rt` on the PATH). Needs python3.
 set -eu
 here=$(dirname "$(readlink -f "${BASH_SOURCE[0]}")")
@@ -14,68 +14,12 @@ if [ ! -x "$program" ]; then
     "$top/haft" check "$top/examples/sum.ll" </dev/null >/dev/null
 fi
 
-exec python3 - "$program" <<'PY'
+PYTHONDONTWRITEBYTECODE=1 PYTHONPATH=$here exec python3 - "$program" <<'PY'
 import os, shutil, subprocess, sys, tempfile, time
 
+from loop_shapes import SHAPES
+
 program = sys.argv[1]
-STEPS = 4_194_304
-
-LOOP = """define i32 @main() {{
-entry:
-  br label %l
-l:
-  %i = phi i64 [ 0, %entry ], [ %j, %l ]
-{body}  %j = add i64 %i, 1
-  %c = icmp ult i64 %j, {rounds}
-  br i1 %c, label %l, label %d
-d:
-  ret i32 0
-}}
-"""
-
-SUMS = "  %a = mul i64 %i, 3\n  %b = xor i64 %a, %i\n  %e = lshr i64 %b, 2\n"
-MEMORY = "  %v = load i64, ptr @g\n  %w = add i64 %v, %i\n  store i64 %w, ptr @g\n"
-CALLS = "  %v = call i64 @twice(i64 %i)\n"
-
-
-def loop(body, steps, before=""):
-    """A main whose rounds take so many steps each, and how many steps it takes in all."""
-    rounds = (STEPS - 16) // steps
-    return before + LOOP.format(body=body, rounds=rounds), rounds * steps + 3
-
-
-THREADS = """@t = global i64 0
-declare i32 @pthread_create(ptr, ptr, ptr, ptr)
-define ptr @work(ptr %x) {
-entry:
-  br label %l
-l:
-  %i = phi i64 [ 0, %entry ], [ %j, %l ]
-  %a = mul i64 %i, 3
-  %b = xor i64 %a, %i
-  %j = add i64 %i, 1
-  br label %l
-}
-define i32 @main() {
-entry:
-  br label %l
-l:
-  %i = phi i64 [ 1, %entry ], [ %j, %l ]
-  %c = call i32 @pthread_create(ptr @t, ptr null, ptr @work, ptr null)
-  %j = add i64 %i, 1
-  br label %l
-}
-"""
-
-SHAPES = {
-    "sums, one thread": (*loop(SUMS, 6), f"turn 0 {STEPS}\n"),
-    "memory, one thread": (*loop(MEMORY, 6, "@g = global i64 0\n"), f"turn 0 {STEPS}\n"),
-    "calls, one thread": (
-        *loop(CALLS, 6, "define i64 @twice(i64 %x) {\n  %y = add i64 %x, %x\n  ret i64 %y\n}\n"),
-        f"turn 0 {STEPS}\n",
-    ),
-    "sums, 64 threads": (THREADS, STEPS, f"round 64 {STEPS // 64}\n"),
-}
 
 
 def run(command, wanted):

@@ -28,3 +28,55 @@ answered() {
         return 1
     fi
 }
+
+# lines_of TEXT: its lines, where ` | ` stands between two.
+lines_of() { sed 's/ | /\n/g' <<<"$1"; }
+
+# told SCHEDULE REPORT: $command gives this report of module.ll under this schedule.
+told() {
+    lines_of "$1" >schedule
+    lines_of "$2" >report
+    answer "$command" module.ll schedule
+    if [ "$status" -ne 0 ] || ! cmp -s written report || [ -s complaint ]; then
+        echo "status $status: $(head -c 300 written | tr '\n' '|')"
+        echo "wanted: $(tr '\n' '|' <report)"
+        return 1
+    fi
+}
+
+# asked LINE: the schedule and the report of a line that asks for $command, in $ask.
+asked() {
+    case $1 in
+        '-- run '*) ask=${1#-- run } && [ "$command" = run ] ;;
+        '-- '*) ask=${1#-- } && [ "$command" = src ] ;;
+        *) return 1 ;;
+    esac
+}
+
+# all_told GROUP runs each module of a group, and names those of which $command tells something else.
+#
+# A group is a file of programs/. Its first lines say what it is about; behind them each module has a line `== NAME`, its own lines,
+# and lines that ask for reports: `-- SCHEDULE => REPORT` for `src`, `-- run SCHEDULE => REPORT` for `run`, where ` | ` stands between
+# two lines of a schedule or of a report. Reports were worked out by hand, from the rules.
+all_told() {
+    local line name='' count=0 failed=0 ask
+    while IFS= read -r line; do
+        case $line in
+            '== '*)
+                name=${line#== }
+                : >module.ll
+                ;;
+            '-- '*)
+                asked "$line" || continue
+                if ! told "${ask%% => *}" "${ask#* => }"; then
+                    echo "  of: $name"
+                    failed=$((failed + 1))
+                fi
+                count=$((count + 1))
+                ;;
+            *) printf '%s\n' "$line" >>module.ll ;;
+        esac
+    done <"$tests/programs/$1.txt"
+    echo "$failed of $count failed"
+    [ "$count" -gt 0 ] && [ "$failed" -eq 0 ]
+}

@@ -1,54 +1,12 @@
 #!/usr/bin/env bats
-# Tests of `src F S`: what runs of the source come to, as a user meets it.
-#
-# A file of src/ is a group of modules, each with schedules. Its first lines say what they are about; behind them each module has a
-# line `== NAME`, its own lines, and a line `-- SCHEDULE => REPORT`, where ` | ` stands between two lines of a schedule or of a
-# report. Reports were worked out by hand, from the rules.
+# Tests of `src F S`: what runs of the source come to, as a user meets it. The modules and schedules stand in programs/ (answers.bash).
 #
 # The program is crates/haft/out/haft, or $HAFT.
 
 load answers
 
+command=src
 seconds=60
-
-# lines_of TEXT: its lines, where ` | ` stands between two.
-lines_of() { sed 's/ | /\n/g' <<<"$1"; }
-
-# told SCHEDULE REPORT: module.ll under this schedule gives this report.
-told() {
-    lines_of "$1" >schedule
-    lines_of "$2" >report
-    answer src module.ll schedule
-    if [ "$status" -ne 0 ] || ! cmp -s written report || [ -s complaint ]; then
-        echo "status $status: $(head -c 300 written | tr '\n' '|')"
-        echo "wanted: $(tr '\n' '|' <report)"
-        return 1
-    fi
-}
-
-# all_told GROUP runs each module of a group, and names those of which something else is told.
-all_told() {
-    local line name='' count=0 failed=0 ask
-    while IFS= read -r line; do
-        case $line in
-            '== '*)
-                name=${line#== }
-                : >module.ll
-                ;;
-            '-- '*)
-                ask=${line#-- }
-                if ! told "${ask%% => *}" "${ask#* => }"; then
-                    echo "  of: $name"
-                    failed=$((failed + 1))
-                fi
-                count=$((count + 1))
-                ;;
-            *) printf '%s\n' "$line" >>module.ll ;;
-        esac
-    done <"$tests/src/$1.txt"
-    echo "$failed of $count failed"
-    [ "$count" -gt 0 ] && [ "$failed" -eq 0 ]
-}
 
 @test "branches, switches, phis, calls, returns and the stack" {
     all_told control

@@ -121,13 +121,13 @@ many_bits() {
 }
 
 @test "each example that runs hardened prints what stands beside it" {
-    local report name
-    for report in "$tests"/../examples/*.expected; do
-        name=${report%.expected}
+    local report name examples=$tests/../examples
+    for report in "$examples"/*.expected; do
+        name=$(basename "$report" .expected)
         [ "${name%.src}" = "$name" ] || continue
         echo "$name"
-        answer run "$name.ll" "$name.sched"
-        answered 0 "$name.expected"
+        answer run "$examples/${name%%.*}.ll" "$examples/$name.sched"
+        answered 0 "$report"
     done
 }
 

@@ -11,11 +11,7 @@ use Rattle.sched_file.specs.Schedule.{ScheduleParts, IsSchedule}
 use Rattle.sched_file.specs.Events.{events_of}
 use Rattle.sched_file.proofs.Meanings.{same_meaning}
 use Rattle.sched_file.proofs.SoFar.{not_unfit}
-use Rattle.haft_run.specs.Built.{IsBuilt}
-use Rattle.haft_run.specs.Schedule.{IsUpsetFree, machine_events}
-use Rattle.haft_run.specs.Turns.{run_on}
-use Rattle.haft_run.specs.Report.{report_of}
-use Rattle.haft_run.specs.Meaning.{IsGood, Means, Told}
+use Rattle.hard_simulation.specs.Meaning.{IsUpsetFree}
 use Rattle.ir_check.specs.Faults.{IsFault}
 use Rattle.ir_check.proofs.OneFault.{fault_excludes}
 use Rattle.haft_cli.specs.declared.command.Command.{Command}
@@ -25,47 +21,20 @@ use Rattle.haft_cli.specs.declared.top.Status.TheVariants.{Done, Refused, WriteF
 use Rattle.haft_cli.specs.declared.work.Work.{Work}
 use Rattle.haft_cli.specs.declared.work.Work.TheVariants.{Report, Refused as RefusedWork}
 use Rattle.haft_cli.specs.declared.command.Refusal.{Refusal}
-use Rattle.haft_cli.specs.declared.command.Refusal.TheVariants.{LongFirst, LongSecond, TextWord, TextByte, Module, UnbuiltFirst, Schedule, UnbuiltSecond}
-use Rattle.haft_cli.specs.Command.{Checks, Runs, Watches, IsWithin, IsCheckReport, IsRunReport, IsWatchReport, IsRefused, IsTextRefused, result_on, run_report, watch_report}
+use Rattle.haft_cli.specs.declared.command.Refusal.TheVariants.{LongFirst, LongSecond, TextWord, TextByte, Module, Schedule, UnbuiltSecond}
+use Rattle.haft_cli.specs.Command.{Checks, Runs, Watches, IsWithin, IsCheckReport, IsRunReport, IsWatchReport, IsRefused, IsTextRefused, run_report, watch_report}
 use Rattle.haft_cli.proofs.Files.{for_some}
-use Rattle.haft_cli.specs.Work.{IsRunOf, IsWatchOf, IsWork, AreTold, status_of, text_of}
-
--- the report of the run, which tells of the source what it says
-pub record Writes (m : ModuleParts) (s : ScheduleParts) (old new : Option (List ℕ)) : Type 0 where
-  pub written : Puts old (run_report m s) new
-  pub told : Told m (result_on m s)
-  pub means : IsGood m → Means m (result_on m s)
-
-pub Writes-done : (status : Status) (work : Work) (old new : Option (List ℕ)) (rose : Type 0) (m : ModuleParts) (s : ScheduleParts)
-    → ((status ≡ status_of work) × Puts old (text_of work) new) ⊎ ((status ≡ WriteFault) × rose × PutsPart old (text_of work) new)
-    → status ≡ Done → (status_of work ≡ Done → IsRunOf m s work) → Writes m s old new
-Writes-done status work old new rose m s (inl w) done run =
-    let r : IsRunOf m s work = run (sym w.0 ∙ done) in
-    record { written = subst (λ text. Puts old text new) r.text w.1; told = r.told; means = r.means }
-Writes-done status work old new rose m s (inr w) done run = let clash : WriteFault ≡ Done = sym w.0 ∙ done in absurd cc
+use Rattle.haft_cli.specs.Work.{IsWork, AreTold, status_of, text_of}
 
 -- the entries of a schedule are known by its text
 pub same_entries : (text : List ℕ) (s other : ScheduleParts) → IsSchedule text s.args s.lines → IsSchedule text other.args other.lines → s.lines ≡ other.lines
 same_entries text s other h k = (same_meaning _ s.args other.args s.lines other.lines h.means k.means).1
 
--- so a run on the one is a run on the other
-same_run : (m : ModuleParts) (s other : ScheduleParts) (work : Work) → s.lines ≡ other.lines → IsRunOf m s work → IsRunOf m other work
-same_run m s other work e r = record {
-  done = r.done;
-  text = subst (λ (lines : List Entry). text_of work ≡ report_of (run_on m (machine_events (events_of lines)))) e r.text;
-  told = subst (λ (lines : List Entry). Told m (run_on m (machine_events (events_of lines)))) e r.told;
-  means = λ good. subst (λ (lines : List Entry). Means m (run_on m (machine_events (events_of lines)))) e (r.means good);
-}
-
-pub run_of_same : {E : Type 0} (m : ModuleParts) (s other : ScheduleParts) (result : Result Work E) → s.lines ≡ other.lines → IfOk result (IsRunOf m s) → IfOk result (IsRunOf m other)
-run_of_same m s other (Ok work) e r = same_run m s other work e r
-run_of_same m s other (Err error) e r = tt
-
--- a watch takes also the arguments, which are known by the text too
-pub watch_of_same : {E : Type 0} (text : List ℕ) (m : ModuleParts) (s other : ScheduleParts) (result : Result Work E) → IsSchedule text s.args s.lines → IsSchedule text other.args other.lines → IfOk result (IsWatchOf m s) → IfOk result (IsWatchOf m other)
-watch_of_same text m s other result h k r =
+-- its arguments are known too: the work for the one schedule is that for the other
+pub work_of_same : {E : Type 0} (Fits : ScheduleParts → Work → Type 0) (text : List ℕ) (s other : ScheduleParts) (result : Result Work E) → IsSchedule text s.args s.lines → IsSchedule text other.args other.lines → IfOk result (Fits s) → IfOk result (Fits other)
+work_of_same Fits text s other result h k r =
     let same = same_meaning _ s.args other.args s.lines other.lines h.means k.means in
-    subst (λ (lines : List Entry). IfOk result (IsWatchOf m (record { args = other.args; lines = lines }))) same.1 (subst (λ (args : List ℕ). IfOk result (IsWatchOf m (record { args = args; lines = s.lines }))) same.0 r)
+    subst (λ (lines : List Entry). IfOk result (Fits (record { args = other.args; lines = lines }))) same.1 (subst (λ (args : List ℕ). IfOk result (Fits (record { args = args; lines = s.lines }))) same.0 r)
 
 -- a report that is known was written
 pub text-done : (status : Status) (work : Work) (old new : Option (List ℕ)) (rose : Type 0) (report : List ℕ)
@@ -83,7 +52,6 @@ not_text_refused text m (TextByte line column) c x = texts_decided.never_both te
 not_text_refused text m (Module kind at name) c x =
     let same : x.0 ≡ m = texts_decided.one_module text x.0 m x.1 c.module_read in
     fault_excludes m (record { kind = kind; at = at; name = name }) (subst (λ (n : ModuleParts). IsFault n (record { kind = kind; at = at; name = name })) same x.2) c.accepted
-not_text_refused text m UnbuiltFirst c x = x
 not_text_refused text m (Schedule line) c x = x
 not_text_refused text m UnbuiltSecond c x = x
 
@@ -94,9 +62,6 @@ not_run first second text LongSecond r x = let h = x.2 second refl in let k = r.
 not_run first second text (TextWord line word) r x = not_text_refused first r.m (TextWord line word) (r.checks first refl) (x.1 first refl)
 not_run first second text (TextByte line column) r x = not_text_refused first r.m (TextByte line column) (r.checks first refl) (x.1 first refl)
 not_run first second text (Module kind at name) r x = not_text_refused first r.m (Module kind at name) (r.checks first refl) (x.1 first refl)
-not_run first second text UnbuiltFirst r x =
-    let u = x.2 first refl in
-    u.3 (subst IsBuilt (texts_decided.one_module first r.m u.0 (r.checks first refl).module_read u.1) r.built)
 not_run first second text (Schedule line) r x = not_unfit second r.s.args r.s.lines line (r.schedule_read second refl) (x.3 second refl)
 not_run first second text UnbuiltSecond r x =
     let u = x.3 second refl in
@@ -108,7 +73,6 @@ not_watch first second text LongSecond r x = let h = x.2 second refl in let k = 
 not_watch first second text (TextWord line word) r x = not_text_refused first r.m (TextWord line word) (r.checks first refl) (x.1 first refl)
 not_watch first second text (TextByte line column) r x = not_text_refused first r.m (TextByte line column) (r.checks first refl) (x.1 first refl)
 not_watch first second text (Module kind at name) r x = not_text_refused first r.m (Module kind at name) (r.checks first refl) (x.1 first refl)
-not_watch first second text UnbuiltFirst r x = let clash : Src ≡ Run = x.0 in absurd cc
 not_watch first second text (Schedule line) r x = not_unfit second r.s.args r.s.lines line (r.schedule_read second refl) (x.3 second refl)
 not_watch first second text UnbuiltSecond r x = let clash : Src ≡ Run = x.0 in absurd cc
 
@@ -118,7 +82,6 @@ not_check first second text LongSecond r x = absurd x.0
 not_check first second text (TextWord line word) r x = not_text_refused first r.m (TextWord line word) (r.checks first refl) (x.1 first refl)
 not_check first second text (TextByte line column) r x = not_text_refused first r.m (TextByte line column) (r.checks first refl) (x.1 first refl)
 not_check first second text (Module kind at name) r x = not_text_refused first r.m (Module kind at name) (r.checks first refl) (x.1 first refl)
-not_check first second text UnbuiltFirst r x = let clash : Check ≡ Run = x.0 in absurd cc
 not_check first second text (Schedule line) r x = absurd x.0
 not_check first second text UnbuiltSecond r x = let clash : Check ≡ Run = x.0 in absurd cc
 
@@ -134,7 +97,6 @@ module _ (left_first left_second : Option (List ℕ)) (first second : List ℕ) 
     s = s;
     within = (for_some IsWithin first first_within, for_some IsWithin second second_within);
     checks = for_some (λ bytes. Checks bytes m) first (record { module_read = runs.module_read; accepted = runs.accepted });
-    built = runs.built;
     schedule_read = for_some (λ bytes. IsSchedule bytes s.args s.lines) second runs.schedule_read;
     upset_free = runs.upset_free;
     report = refl;

@@ -6,7 +6,7 @@ use Rattle.haft_io.specs.declared.device.Which.TheVariants.{First, Second}
 use Rattle.ir_core.specs.Module.{ModuleParts}
 use Rattle.sched_file.specs.Schedule.{ScheduleParts, IsSchedule}
 use Rattle.haft_cli.specs.declared.command.Refusal.{Refusal}
-use Rattle.haft_cli.specs.declared.command.Refusal.TheVariants.{LongFirst, LongSecond, TextWord, TextByte, Module, UnbuiltFirst, Schedule, UnbuiltSecond}
+use Rattle.haft_cli.specs.declared.command.Refusal.TheVariants.{LongFirst, LongSecond, TextWord, TextByte, Module, Schedule, UnbuiltSecond}
 use Rattle.haft_cli.specs.declared.work.Work.{Work}
 use Rattle.haft_cli.specs.declared.work.Work.TheVariants.{Report, Refused}
 use Rattle.haft_cli.specs.Command.{IsWithin, AreWithin, IsReport, IsRefused, IsTextRefused, ReadsSecond, Checks, Runs, Watches, limit}
@@ -28,7 +28,6 @@ text_refused command first second LongSecond within r = absurd r
 text_refused command first second (TextWord line word) within r = (within, for_some (λ text. IsTextRefused text (TextWord line word)) first r)
 text_refused command first second (TextByte line column) within r = (within, for_some (λ text. IsTextRefused text (TextByte line column)) first r)
 text_refused command first second (Module kind at name) within r = (within, for_some (λ text. IsTextRefused text (Module kind at name)) first r)
-text_refused command first second UnbuiltFirst within r = absurd r
 text_refused command first second (Schedule line) within r = absurd r
 text_refused command first second UnbuiltSecond within r = absurd r
 
@@ -39,7 +38,6 @@ module _ (left_first left_second : Option (List ℕ)) (first : List ℕ) (one : 
   refused_check (TextWord line word) r = (carry _ left_first first one r.0, carry _ left_first first one r.1)
   refused_check (TextByte line column) r = (carry _ left_first first one r.0, carry _ left_first first one r.1)
   refused_check (Module kind at name) r = (carry _ left_first first one r.0, carry _ left_first first one r.1)
-  refused_check UnbuiltFirst r = let clash : Check ≡ Run = r.0 in absurd cc
   refused_check (Schedule line) r = absurd r.0
   refused_check UnbuiltSecond r = let clash : Check ≡ Run = r.0 in absurd cc
 
@@ -85,7 +83,6 @@ module _ (old new : Which → Option (List ℕ)) (first second : List ℕ) (whol
   refused_files command (TextWord line word) r = (files_within command r.0, of_first _ r.1)
   refused_files command (TextByte line column) r = (files_within command r.0, of_first _ r.1)
   refused_files command (Module kind at name) r = (files_within command r.0, of_first _ r.1)
-  refused_files command UnbuiltFirst r = (r.0, files_within Run r.1, of_first _ r.2)
   refused_files command (Schedule line) r = (r.0, files_within command r.1, of_first _ r.2, of_second _ r.3)
   refused_files command UnbuiltSecond r = (r.0, files_within Run r.1, of_first _ r.2, of_second _ r.3)
 
@@ -96,7 +93,6 @@ module _ (old new : Which → Option (List ℕ)) (first second : List ℕ) (whol
     s = w.s;
     within = files_within Run w.within;
     checks = of_first (λ bytes. Checks bytes w.m) w.checks;
-    built = w.built;
     schedule_read = of_second (λ bytes. IsSchedule bytes w.s.args w.s.lines) w.schedule_read;
     upset_free = w.upset_free;
     report = w.report;

@@ -14,17 +14,18 @@ use Rattle.ir_check.specs.declared.fault.Kind.{Kind}
 use Rattle.ir_check.specs.declared.fault.Kind.TheVariants.{DuplicateName, UnknownName, Limit, BadTerminator, BadCall, TypeMismatch, NoMain, EntryHasPredecessor, PhiMismatch, UseBeforeDef}
 use Rattle.sched_file.specs.Schedule.{ScheduleParts, IsSchedule, UnfitLine}
 use Rattle.sched_file.specs.Events.{events_of}
-use Rattle.haft_run.specs.Built.{IsBuilt}
-use Rattle.haft_run.specs.Schedule.{IsUpsetFree, machine_events}
-use Rattle.haft_run.specs.Turns.{run_on}
+use Rattle.hard_ir.specs.Image.{check_table}
+use Rattle.hard_ir.specs.Hardened.{hardened_by}
+use Rattle.hard_machine.specs.Runs.{run_on}
+use Rattle.hard_machine.specs.declared.outcome.RunResult.{RunResult}
+use Rattle.hard_simulation.specs.Meaning.{IsUpsetFree}
 use Rattle.haft_run.specs.Report.{report_of}
 use Rattle.haft_run.specs.SourceReport.{src_report_of}
-use Rattle.haft_run.specs.declared.outcome.RunResult.{RunResult}
 use Rattle.race_watch.specs.Watching.{watch_of}
 use Rattle.haft_cli.specs.declared.command.Command.{Command}
 use Rattle.haft_cli.specs.declared.command.Command.TheVariants.{Check, Run, Src}
 use Rattle.haft_cli.specs.declared.command.Refusal.{Refusal}
-use Rattle.haft_cli.specs.declared.command.Refusal.TheVariants.{LongFirst, LongSecond, TextWord, TextByte, Module, UnbuiltFirst, Schedule, UnbuiltSecond}
+use Rattle.haft_cli.specs.declared.command.Refusal.TheVariants.{LongFirst, LongSecond, TextWord, TextByte, Module, Schedule, UnbuiltSecond}
 
 -- the words are `check F`, `run F S` or `src F S`
 abbrev pub command_of : List (List ℕ) → Option Command
@@ -80,7 +81,6 @@ line_of LongSecond = codes "refused long second\n"
 line_of (TextWord line word) = text_line line (codes " ") word
 line_of (TextByte line column) = text_line line (codes " byte ") (decimal column)
 line_of (Module kind at name) = module_line kind at name
-line_of UnbuiltFirst = codes "refused unbuilt first\n"
 line_of (Schedule line) = codes "refused schedule " ++ decimal line ++ codes "\n"
 line_of UnbuiltSecond = codes "refused unbuilt second\n"
 
@@ -97,19 +97,9 @@ IsWithin text = length text ≤ limit
 abbrev pub HasFault : List ℕ → Fault → Type 0
 HasFault text fault = (m : ModuleParts) × Text text m × IsFault m fault
 
--- what a command asks of the module: only what is hardened must be built
-abbrev pub Admits : Command → ModuleParts → Type 0
-Admits Check m = IsAccepted m
-Admits Run m = IsAccepted m × IsBuilt m
-Admits Src m = IsAccepted m
-
--- the text stands for such a module
-abbrev pub IsAdmitted : Command → List ℕ → Type 0
-IsAdmitted command text = (m : ModuleParts) × Text text m × Admits command m
-
--- the text stands for an accepted module that isn't built
-abbrev pub IsUnbuiltText : List ℕ → Type 0
-IsUnbuiltText text = (m : ModuleParts) × Text text m × IsAccepted m × (IsBuilt m → ⊥)
+-- the text stands for an accepted module
+abbrev pub IsAcceptedText : List ℕ → Type 0
+IsAcceptedText text = (m : ModuleParts) × Text text m × IsAccepted m
 
 -- the text is a schedule with an upset
 abbrev pub HasUpset : List ℕ → Type 0
@@ -135,9 +125,8 @@ IsRefused command first second LongSecond = ReadsSecond command × ForSome first
 IsRefused command first second (TextWord line word) = AreWithin command first second × ForSome first (λ text. IsTextRefused text (TextWord line word))
 IsRefused command first second (TextByte line column) = AreWithin command first second × ForSome first (λ text. IsTextRefused text (TextByte line column))
 IsRefused command first second (Module kind at name) = AreWithin command first second × ForSome first (λ text. IsTextRefused text (Module kind at name))
-IsRefused command first second UnbuiltFirst = (command ≡ Run) × AreWithin Run first second × ForSome first IsUnbuiltText
-IsRefused command first second (Schedule line) = ReadsSecond command × AreWithin command first second × ForSome first (IsAdmitted command) × ForSome second (λ text. UnfitLine text line)
-IsRefused command first second UnbuiltSecond = (command ≡ Run) × AreWithin Run first second × ForSome first (IsAdmitted Run) × ForSome second HasUpset
+IsRefused command first second (Schedule line) = ReadsSecond command × AreWithin command first second × ForSome first IsAcceptedText × ForSome second (λ text. UnfitLine text line)
+IsRefused command first second UnbuiltSecond = (command ≡ Run) × AreWithin Run first second × ForSome first IsAcceptedText × ForSome second HasUpset
 
 -- ---- reports
 
@@ -160,11 +149,10 @@ inst_count m = sum (map insts_in m.funcs)
 abbrev pub check_report : ModuleParts → List ℕ
 check_report m = codes "accepted " ++ decimal (length m.funcs) ++ codes " " ++ decimal (block_count m) ++ codes " " ++ decimal (inst_count m) ++ codes "\n"
 
--- the text stands for an accepted module that is built, and the other one is a schedule without upsets
+-- the text stands for an accepted module, and the other one is a schedule without upsets
 pub record Runs (first second : List ℕ) (m : ModuleParts) (s : ScheduleParts) : Type 0 where
   pub module_read : Text first m
   pub accepted : IsAccepted m
-  pub built : IsBuilt m
   pub schedule_read : IsSchedule second s.args s.lines
   pub upset_free : IsUpsetFree (events_of s.lines)
 
@@ -174,9 +162,9 @@ pub record Watches (first second : List ℕ) (m : ModuleParts) (s : SchedulePart
   pub accepted : IsAccepted m
   pub schedule_read : IsSchedule second s.args s.lines
 
--- the run of a module on a schedule, and its report
+-- the run of a module, hardened, on a schedule, and its report
 abbrev pub result_on : ModuleParts → ScheduleParts → RunResult
-result_on m s = run_on m (machine_events (events_of s.lines))
+result_on m s = run_on (hardened_by check_table m) s.args (events_of s.lines)
 
 abbrev pub run_report : ModuleParts → ScheduleParts → List ℕ
 run_report m s = report_of (result_on m s)
@@ -198,7 +186,6 @@ pub record IsRunReport (first second : Option (List ℕ)) (text : List ℕ) : Ty
   pub s : ScheduleParts
   pub within : AreWithin Run first second
   pub checks : ForSome first (λ bytes. Checks bytes m)
-  pub built : IsBuilt m
   pub schedule_read : ForSome second (λ bytes. IsSchedule bytes s.args s.lines)
   pub upset_free : IsUpsetFree (events_of s.lines)
   pub report : text ≡ run_report m s

@@ -42,8 +42,6 @@ pub enum Refusal {
         at: Name,
         name: Option<Name>,
     },
-    /// The module of the first file, which is to be hardened, isn't built.
-    UnbuiltFirst,
     /// A line of the second file is the first unfit one of a schedule.
     Schedule {
         line: u32,
@@ -155,7 +153,6 @@ impl Refusal {
             Refusal::TextWord { line, word } => text_line(alloc, *line, b" ", word.bytes()),
             Refusal::TextByte { line, col } => byte_line(alloc, *line, *col),
             Refusal::Module { kind, at, name } => { module_line(alloc, *kind, at.bytes(), name) }
-            Refusal::UnbuiltFirst => Vec::from_slice(alloc, b"refused unbuilt first\n"),
             Refusal::Schedule { line } => schedule_line(alloc, *line),
             Refusal::UnbuiltSecond => Vec::from_slice(alloc, b"refused unbuilt second\n"),
         }

@@ -4,8 +4,7 @@ ghost use Rattle.std.specs.Option.{ForSome};
 ghost use Rattle.haft_io.specs.Device.{Rose, Puts, PutsPart, emptied};
 ghost use Rattle.ir_core.specs.Module.{ModuleParts};
 ghost use Rattle.sched_file.specs.Schedule.{ScheduleParts};
-ghost use Rattle.haft_run.specs.Meaning.{IsGood, Means, Told};
-ghost use Rattle.haft_cli.specs.Command.{command_of, IsWithin, IsRefused, Checks, Runs, Watches, check_report, result_on, run_report, watch_report};
+ghost use Rattle.haft_cli.specs.Command.{command_of, IsWithin, IsRefused, Checks, Runs, Watches, check_report, run_report, watch_report};
 ghost use Rattle.haft_cli.specs.declared.command.Command.{Command as CommandValue};
 ghost use Rattle.haft_cli.specs.declared.command.Command.TheVariants.{Check, Run, Src};
 ghost use Rattle.haft_cli.specs.declared.command.Refusal.{Refusal};
@@ -55,9 +54,8 @@ fn finish<O: Sink>(out: &mut O, work: &Work) -> Status
 /// program, runs it over the schedule and writes the report of the run. `src F S` reads the same files, runs the source
 /// itself over the schedule's turns, up to its end, an undefined step or a race, and writes the report of that.
 ///
-/// The order is: the words; the first file, read whole; the second; the text of the module; its check; for `run` whether it
-/// is built; the text of the schedule; for `run` whether it has an upset; the run; the write. For want of memory nothing is
-/// written.
+/// The order is: the words; the first file, read whole; the second; the text of the module; its check; the text of the
+/// schedule; for `run` whether it has an upset; the run; the write. For want of memory nothing is written.
 pub fn haft<I: Inputs, O: Sink>(
     alloc: Global,
     words: &[String],
@@ -94,21 +92,11 @@ pub fn haft<I: Inputs, O: Sink>(
         → Checks first m
         → Puts (O.written out.old) (check_report m) (O.written out.new) }
 
-    // For a module that is built and a schedule without upsets the bytes written are exactly the report of the hardened run.
+    // For an accepted module and a schedule without upsets the bytes written are exactly the report of the hardened run.
     ensures exact { (first second : List ℕ) (m : ModuleParts) (s : ScheduleParts) → command_of (map string_bytes words.now) ≡ Some Run → result ≡ Status.Done
         → I.left inputs.old Which.First ≡ Some first → I.left inputs.old Which.Second ≡ Some second
         → Runs first second m s
         → Puts (O.written out.old) (run_report m s) (O.written out.new) }
-
-    // That run stands for the source run whose turns it tells, or the source is undefined on them.
-    ensures told { (first second : List ℕ) (m : ModuleParts) (s : ScheduleParts) → command_of (map string_bytes words.now) ≡ Some Run → result ≡ Status.Done
-        → I.left inputs.old Which.First ≡ Some first → I.left inputs.old Which.Second ≡ Some second
-        → Runs first second m s → Told m (result_on m s) }
-
-    // So it stands for a source run where the module is good.
-    ensures meaning { (first second : List ℕ) (m : ModuleParts) (s : ScheduleParts) → command_of (map string_bytes words.now) ≡ Some Run → result ≡ Status.Done
-        → I.left inputs.old Which.First ≡ Some first → I.left inputs.old Which.Second ≡ Some second
-        → Runs first second m s → IsGood m → Means m (result_on m s) }
 
     // For an accepted module and a schedule `src` writes exactly the report of the watch.
     ensures watched { (first second : List ℕ) (m : ModuleParts) (s : ScheduleParts) → command_of (map string_bytes words.now) ≡ Some Src → result ≡ Status.Done

@@ -5,8 +5,7 @@ ghost use Rattle.haft_io.specs.Device.{Rose, emptied, other};
 ghost use Rattle.ir_core.specs.Module.{ModuleParts};
 ghost use Rattle.sched_file.specs.Schedule.{ScheduleParts, IsSchedule};
 ghost use Rattle.sched_file.specs.Events.{events_of};
-ghost use Rattle.haft_run.specs.Built.{IsBuilt};
-ghost use Rattle.haft_run.specs.Schedule.{IsUpsetFree};
+ghost use Rattle.hard_simulation.specs.Meaning.{IsUpsetFree};
 ghost use Rattle.haft_cli.specs.Command.{IsWithin, IsRefused, Checks, Runs, Watches, limit};
 ghost use Rattle.haft_cli.specs.declared.command.Command.{Command as CommandValue};
 ghost use Rattle.haft_cli.specs.declared.command.Command.TheVariants.{Check, Run, Src};
@@ -17,7 +16,7 @@ use crate::Status;
 use crate::command::{Command, Refusal};
 use crate::counts::check_report;
 use haft_io::{Inputs, ReadFail, Which, read_whole};
-use haft_run::{built, report, run, src_report, upset_free};
+use haft_run::{report, run, src_report, upset_free};
 use ir_check::{Accepted, CheckError, accept};
 use ir_parse_top::{ParseError, parse_module};
 use race_watch::watch;
@@ -141,10 +140,9 @@ fn open_module(alloc: Global, text: &[u8]) -> Result<Opened, AllocError>
     }
 }
 
-/// The work of `run` for an accepted module that is built and a schedule.
+/// The work of `run` for an accepted module and a schedule.
 fn run_schedule(alloc: Global, a: &Accepted, s: &Schedule) -> Result<Work, AllocError>
-    requires built { IsBuilt a.now }
-    requires few { length (events_of s.now.lines) ≤ 4194304 }
+    requires { length (events_of s.now.lines) ≤ 4194304 }
     ensures work { (first second : List ℕ) → IsWithin first → IsWithin second → Checks first a.now → IsSchedule second s.now.args s.now.lines → IfOk result (IsWork Run (Some first) (Some second)) }
     ensures run { IsUpsetFree (events_of s.now.lines) → IfOk result (IsRunOf a.now s.now) }
 {
@@ -156,10 +154,9 @@ fn run_schedule(alloc: Global, a: &Accepted, s: &Schedule) -> Result<Work, Alloc
     Ok(Work::Report(text))
 }
 
-/// The work of `run` for an accepted module that is built and a second file.
-fn run_built(alloc: Global, a: &Accepted, second: &[u8]) -> Result<Work, AllocError>
-    requires built { IsBuilt a.now }
-    requires within { IsWithin second.now }
+/// The work of `run` for an accepted module and a second file.
+fn run_text(alloc: Global, a: &Accepted, second: &[u8]) -> Result<Work, AllocError>
+    requires { IsWithin second.now }
     ensures work { (first : List ℕ) → IsWithin first → Checks first a.now → IfOk result (IsWork Run (Some first) (Some second.now)) }
     ensures run { (s : ScheduleParts) → IsSchedule second.now s.args s.lines → IsUpsetFree (events_of s.lines) → IfOk result (IsRunOf a.now s) }
 {
@@ -167,19 +164,6 @@ fn run_built(alloc: Global, a: &Accepted, second: &[u8]) -> Result<Work, AllocEr
         Ok(s) => run_schedule(alloc, a, &s),
         Err(SchedError::Refused { line }) => refused(alloc, Refusal::Schedule { line }),
         Err(SchedError::NoMemory) => Err(AllocError),
-    }
-}
-
-/// The work of `run` for an accepted module and a second file.
-fn run_text(alloc: Global, a: &Accepted, second: &[u8]) -> Result<Work, AllocError>
-    requires { IsWithin second.now }
-    ensures work { (first : List ℕ) → IsWithin first → Checks first a.now → IfOk result (IsWork Run (Some first) (Some second.now)) }
-    ensures run { (s : ScheduleParts) → IsBuilt a.now → IsSchedule second.now s.args s.lines → IsUpsetFree (events_of s.lines) → IfOk result (IsRunOf a.now s) }
-{
-    if built(a) {
-        run_built(alloc, a, second)
-    } else {
-        refused(alloc, Refusal::UnbuiltFirst)
     }
 }
 
@@ -280,7 +264,7 @@ fn prepare_check<I: Inputs>(alloc: Global, inputs: &mut I) -> Result<Work, Stopp
 /// The work of `run` for the files, which are read whole, the first before the second.
 fn prepare_run<I: Inputs>(alloc: Global, inputs: &mut I) -> Result<Work, Stopped>
     ensures work { IfOk result (IsWork Run (I.left inputs.old Which.First) (I.left inputs.old Which.Second)) }
-    // A module that is built and a schedule without upsets give the report of their run.
+    // An accepted module and a schedule without upsets give the report of their run.
     ensures run { (first second : List ℕ) (m : ModuleParts) (s : ScheduleParts) → I.left inputs.old Which.First ≡ Some first → I.left inputs.old Which.Second ≡ Some second
         → IsWithin first → IsWithin second → Runs first second m s → IfOk result (IsRunOf m s) }
     // A report for such files is that of their run.

@@ -1,14 +1,2 @@
-pub mod Events
-pub mod Agreement
-pub mod Unflagged
-pub mod Places
-pub mod Points
-pub mod Lists
-pub mod Kept
-pub mod Steps
-pub mod Simulation
-pub mod Images
-pub mod Defined
-pub mod Feeding
-pub mod BuiltModules
-pub mod Upsets
+mod Growth
+mod Upsets

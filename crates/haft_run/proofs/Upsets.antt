@@ -6,7 +6,8 @@ use Rattle.ir_core.specs.declared.types.Tid.{Tid}
 use Rattle.sched_file.specs.declared.entries.Line.{Line}
 use Rattle.sched_file.specs.declared.entries.Line.TheVariants as entries
 use Rattle.sched_file.specs.Events.{TurnOf, turn_of, mixed, round_turns, mix_turns, events_in, events_of}
-use Rattle.haft_run.specs.Schedule.{is_no_upset, has_no_upset}
+use Rattle.hard_machine.specs.Runs.{is_no_upset}
+use Rattle.haft_run.specs.Schedule.{has_no_upset}
 
 same_turns : (thread : Tid) (turns : ℕ) → list_all is_no_upset (replicate turns (TurnOf thread)) ≡ true
 same_turns thread zero = refl

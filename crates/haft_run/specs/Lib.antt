@@ -1,10 +1,3 @@
-pub mod Source
-pub mod Hard
-pub mod Images
-pub mod Turns
 pub mod Report
-pub mod Meaning
-pub mod State
 pub mod Schedule
-pub mod Built
 pub mod SourceReport

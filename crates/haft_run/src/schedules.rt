@@ -2,7 +2,8 @@
 ghost use Rattle.std.specs.Prelude.{◌≡◌, ◌↔◌, IsTrue};
 ghost use Rattle.std.specs.List.{list_all};
 ghost use Rattle.sched_file.specs.Events.{events_of};
-ghost use Rattle.haft_run.specs.Schedule.{has_no_upset, IsUpsetFree};
+ghost use Rattle.hard_simulation.specs.Meaning.{IsUpsetFree};
+ghost use Rattle.haft_run.specs.Schedule.{has_no_upset};
 
 use sched_file::{Line, Schedule};
 

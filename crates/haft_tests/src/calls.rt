@@ -31,14 +31,40 @@ fn reports_are_written_as_the_schedules_ask(rt: HostRuntime) {
     }
 }
 
+/// Turns enough for two threads to count to 20 under a lock, one after the other.
+const COUNTING: &str = "turn 0 200\nturn 1 3000\nturn 2 3000\nturn 0 200\n";
+
+/// Modules of several blocks, schedules, and the reports.
+const RUNS: &[(&str, &str, &str)] = &[
+    (
+        TWO_BLOCKS,
+        TURNS,
+        "aborts 0 0 0 0\nstop end 0\nsrc 0*3\n",
+    ),
+    // A thread takes 5 steps of the source before its loop, 13 in each of 10 rounds, and 5 from the last test to its exit;
+    // `main` takes 7 before it first waits, and 8 behind that.
+    (
+        COUNT,
+        COUNTING,
+        "out 20\naborts 0 0 0 0\nstop end 0\nsrc 0*7 1*140 2*140 0*8\n",
+    ),
+];
+
+#[test]
+fn modules_of_blocks_and_threads_run(rt: HostRuntime) {
+    for (first, second, text) in RUNS {
+        let (answer, written) = run_on(&rt, rt.alloc(), first.as_bytes(), second.as_bytes(), 0, 0);
+        assert!(rt; answer == Status::Done, "not {text:?}");
+        assert_eq!(rt; written.as_slice(), text.as_bytes());
+    }
+}
+
 /// Modules, schedules, and the lines of their refusals.
 const REFUSALS: &[(&str, &str, &str)] = &[
     (UNKNOWN_OPERATION, TURNS, "refused text 3 fadd\n"),
     (UNENDED, TURNS, "refused text 6 end\n"),
     (BAD_BYTE, TURNS, "refused text 4 byte 27\n"),
     ("", TURNS, "refused module NoMain -\n"),
-    (TWO_BLOCKS, TURNS, "refused unbuilt first\n"),
-    (COUNT, TURNS, "refused unbuilt first\n"),
     (SUM, "turn 64 1\n", "refused schedule 1\n"),
     (SUM, "turn 0 4194304\nturn 0 1\n", "refused schedule 2\n"),
     (
@@ -46,8 +72,8 @@ const REFUSALS: &[(&str, &str, &str)] = &[
         "turn 0 3\nupset 0 0 m.a 1\nturn 0 40\n",
         "refused unbuilt second\n",
     ),
-    // Where more than one holds, the text of the module comes first, then its check, then whether it is built, then the
-    // text of the schedule, then whether it has an upset.
+    // Where more than one holds, the text of the module comes first, then its check, then the text of the schedule, then
+    // whether it has an upset.
     ("", "turn 64 1\n", "refused module NoMain -\n"),
     (UNKNOWN_OPERATION, "turn 64 1\n", "refused text 3 fadd\n"),
     (
@@ -56,8 +82,13 @@ const REFUSALS: &[(&str, &str, &str)] = &[
         "refused text 3 fadd\n",
     ),
     (BAD_BYTE, "turn 64 1\n", "refused text 4 byte 27\n"),
-    (TWO_BLOCKS, "turn 64 1\n", "refused unbuilt first\n"),
-    (TWO_BLOCKS, "upset 0 0 m.a 1\n", "refused unbuilt first\n"),
+    ("", "upset 0 0 m.a 1\n", "refused module NoMain -\n"),
+    (TWO_BLOCKS, "turn 64 1\n", "refused schedule 1\n"),
+    (
+        TWO_BLOCKS,
+        "upset 0 0 m.a 1\n",
+        "refused unbuilt second\n",
+    ),
     (SUM, "upset 0 0 m.a 1\nturn 64 1\n", "refused schedule 2\n"),
 ];
 

@@ -3,8 +3,6 @@
 #![tactic(auto)]
 
 #[cfg(test)]
-mod built_modules;
-#[cfg(test)]
 mod calls;
 #[cfg(test)]
 mod faults;
@@ -14,5 +12,7 @@ mod operator_runs;
 mod pieces;
 #[cfg(test)]
 mod runs;
+#[cfg(test)]
+mod schedules;
 #[cfg(test)]
 mod texts;

@@ -1,7 +1,7 @@
-//! Runs of modules with operators, comparisons, selections and casts. Expected words are worked out from the LLVM
-//! Language Reference, expected turns from the images: two hardened instructions for each of these, a check for each
-//! register that is given out or returned.
-use crate::runs::{is_built_text, report_on};
+//! Runs of modules of one block. Expected words are worked out from the LLVM
+//! Language Reference, expected turns from the images: two hardened instructions for each operator, comparison, selection and
+//! cast, a check for each register that memory, an external or the caller gets.
+use crate::runs::report_on;
 use crate::texts::SUM;
 use std::alloc::Global;
 use std::process::Abort;
@@ -83,6 +83,49 @@ const RUNS: &[(&str, &str, &str)] = &[
         "turn 0 1",
         "aborts 0 0 0 0\nstop bound\nsrc\n",
     ),
+    // Pointers: compared, made of a number and taken as one, and three steps of eight bytes behind null.
+    (
+        "%a = icmp eq ptr null, null\n%b = zext i1 %a to i64\ncall void @haft_out(i64 %b)\nret i32 0",
+        "turn 0 40",
+        "out 1\naborts 0 0 0 0\nstop end 0\nsrc 0*5\n",
+    ),
+    (
+        "%p = inttoptr i64 8 to ptr\n%a = ptrtoint ptr %p to i64\ncall void @haft_out(i64 %a)\nret i32 0",
+        "turn 0 40",
+        "out 8\naborts 0 0 0 0\nstop end 0\nsrc 0*5\n",
+    ),
+    (
+        "%p = getelementptr i64, ptr null, i64 3\n%a = ptrtoint ptr %p to i64\ncall void @haft_out(i64 %a)\nret i32 0",
+        "turn 0 40",
+        "out 24\naborts 0 0 0 0\nstop end 0\nsrc 0*5\n",
+    ),
+    // `alloca`, `mov`; check, store; check, load, `mov`; check, call; `ret`; the exit: the eleventh turn ends the program.
+    (
+        "%p = alloca i64\nstore i64 7, ptr %p\n%v = load i64, ptr %p\ncall void @haft_out(i64 %v)\nret i32 0",
+        "turn 0 11",
+        "out 7\naborts 0 0 0 0\nstop end 0\nsrc 0*6\n",
+    ),
+    (
+        "%p = alloca i64\nstore i64 7, ptr %p\n%v = load i64, ptr %p\ncall void @haft_out(i64 %v)\nret i32 0",
+        "turn 0 10",
+        "out 7\naborts 0 0 0 0\nstop bound\nsrc 0*5\n",
+    ),
+    (
+        "fence seq_cst\nret i32 0",
+        "turn 0 3",
+        "aborts 0 0 0 0\nstop end 0\nsrc 0*3\n",
+    ),
+    // What is undefined outside a transaction stops the run at its place.
+    (
+        "%v = load i64, ptr null\nret i32 0",
+        "turn 0 9",
+        "aborts 0 0 0 0\nstop trap 0 main/0/0\nsrc\n",
+    ),
+    (
+        "unreachable",
+        "turn 0 9",
+        "aborts 0 0 0 0\nstop trap 0 main/0/0\nsrc\n",
+    ),
 ];
 
 /// Schedules for the sum, and what it comes to.
@@ -107,33 +150,6 @@ const SCHEDULES: &[(&str, &str)] = &[
     ("mix 3 0 1", "aborts 0 0 0 0\nstop bound\nsrc\n"),
     ("mix 1 0 6", "out 5\naborts 0 0 0 0\nstop end 0\nsrc 0*4\n"),
     ("turn 63 4194304", "aborts 0 0 0 0\nstop bound\nsrc\n"),
-];
-
-/// Blocks of accepted modules, and whether they are built.
-const FORMS: &[(&str, bool)] = &[
-    ("ret i32 0", true),
-    (
-        "%a = add nuw nsw i8 1, 1\n%b = udiv exact i8 %a, %a\nret i32 0",
-        true,
-    ),
-    (
-        "%a = xor i1 1, 0\n%b = select i1 %a, i1 %a, i1 0\nret i32 0",
-        true,
-    ),
-    ("%a = icmp eq i8 1, 1\n%b = add i1 %a, 1\nret i32 0", true),
-    ("%a = icmp eq ptr null, null\nret i32 0", false),
-    ("%a = select i1 1, ptr null, ptr null\nret i32 0", false),
-    (
-        "%a = zext i8 1 to i16\n%b = trunc i16 %a to i1\nret i32 0",
-        true,
-    ),
-    ("%a = ptrtoint ptr null to i64\nret i32 0", false),
-    ("%a = inttoptr i64 1 to ptr\nret i32 0", false),
-    ("%a = add i32 1, 1\nret i32 %a", true),
-    ("%a = alloca i64\nret i32 0", false),
-    ("%a = getelementptr i64, ptr null, i64 1\nret i32 0", false),
-    ("unreachable", false),
-    ("fence seq_cst\nret i32 0", false),
 ];
 
 /// The text of a module of these lines, which may give numbers out.
@@ -163,15 +179,5 @@ fn runs_go_by_the_events_of_schedules(rt: HostRuntime) {
     for (schedule, want) in SCHEDULES {
         let found = report_on(&rt, alloc, SUM, schedule);
         assert!(rt; found.as_slice() == want.as_bytes(), "over {schedule:?}");
-    }
-}
-
-#[test]
-fn blocks_are_built_by_their_form(rt: HostRuntime) {
-    let alloc = rt.alloc();
-    for (lines, want) in FORMS {
-        let text = main_of(&rt, alloc, lines);
-        let told = is_built_text(&rt, alloc, &text);
-        assert!(rt; told == *want, "for {lines:?}");
     }
 }

@@ -1,5 +1,5 @@
 //! The calls below the top one, each by itself.
-use crate::runs::{module_of, result_on};
+use crate::runs::{hardened_result_on, module_of, result_on};
 use crate::texts::{REPORT, SUM, TURNS, inputs_of, sink_of};
 use haft_io::{Failed, ReadFail, Which, read_whole, write_whole};
 use haft_run::{Aborts, RunResult, Stop, report};
@@ -67,6 +67,7 @@ fn a_text_is_read_run_and_reported(rt: HostRuntime) {
     drop(m);
     let result = result_on(&rt, rt.alloc(), SUM, TURNS);
     check_run(&rt, &result);
+    check_run(&rt, &hardened_result_on(&rt, rt.alloc(), SUM, TURNS));
     let text = report(rt.alloc(), &result).expect(&rt, "no memory for a report");
     assert!(rt; text.as_slice() == REPORT.as_bytes());
 }

@@ -1,9 +1,7 @@
 //! Runs of whole texts.
-ghost use Rattle.std.specs.Prelude.{IsTrue};
 ghost use Rattle.ir_parse_top.specs.Text.{IsOfText};
-ghost use Rattle.haft_run.specs.Built.{IsBuilt};
 
-use haft_run::{RunResult, built, report, run, upset_free};
+use haft_run::{RunResult, harden, report, run, run_hardened, upset_free};
 use ir_check::{Accepted, accept};
 use ir_core::Module;
 use ir_parse_top::parse_module;
@@ -37,20 +35,23 @@ fn accepted_of(rt: &impl Abort, alloc: Global, text: &str) -> Accepted {
     }
 }
 
-/// Whether the module is built.
-fn is_built(a: &Accepted) -> bool
-    ensures { IsTrue result → IsBuilt a.now }
-{
-    built(a)
-}
-
-/// What a module that is built comes to over a schedule without upsets.
+/// What a module comes to over a schedule without upsets.
 fn result_of(rt: &impl Abort, alloc: Global, a: &Accepted, schedule: &str) -> RunResult {
     assert!(rt; schedule.len() <= 4_194_304);
     let schedule = parse_schedule(alloc, schedule.as_bytes()).expect(rt, "a schedule is unfit");
-    assert!(rt; is_built(a));
     assert!(rt; upset_free(&schedule));
     run(alloc, a, &schedule).expect(rt, "no memory to run")
+}
+
+/// What the hardened module comes to.
+fn hardened_result_of(rt: &impl Abort, alloc: Global, a: &Accepted, schedule: &str) -> RunResult {
+    assert!(rt; schedule.len() <= 4_194_304);
+    let schedule = parse_schedule(alloc, schedule.as_bytes()).expect(rt, "a schedule is unfit");
+    assert!(rt; upset_free(&schedule));
+    let h = harden(alloc, a).expect(rt, "no memory to harden");
+    let result = run_hardened(alloc, &h, &schedule).expect(rt, "no memory to run");
+    drop(h);
+    result
 }
 
 /// What the accepted module of a text comes to over a schedule.
@@ -61,16 +62,16 @@ pub fn result_on(rt: &impl Abort, alloc: Global, text: &str, schedule: &str) -> 
     result
 }
 
-/// The report of that run.
+/// What its hardened module comes to.
+pub fn hardened_result_on(rt: &impl Abort, alloc: Global, text: &str, schedule: &str) -> RunResult {
+    let a = accepted_of(rt, alloc, text);
+    let result = hardened_result_of(rt, alloc, &a, schedule);
+    drop(a);
+    result
+}
+
+/// The report of a run of the accepted module.
 pub fn report_on(rt: &impl Abort, alloc: Global, text: &str, schedule: &str) -> Vec<u8> {
     let result = result_on(rt, alloc, text, schedule);
     report(alloc, &result).expect(rt, "no memory for a report")
-}
-
-/// Whether the accepted module of a text is built.
-pub fn is_built_text(rt: &impl Abort, alloc: Global, text: &str) -> bool {
-    let a = accepted_of(rt, alloc, text);
-    let told = built(&a);
-    drop(a);
-    told
 }

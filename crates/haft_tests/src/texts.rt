@@ -20,7 +20,7 @@ pub const UNENDED: &str =
 pub const BAD_BYTE: &str =
     "declare void @haft_out(i64)\ndefine i32 @main() {\n  %a = add i64 2, 3\n  call void @haft_out(i64 ?a)\n  ret i32 0\n}\n";
 
-/// A program of two blocks, which isn't built.
+/// A program of two blocks.
 pub const TWO_BLOCKS: &str = "define i32 @main() {\n  br label %end\nend:\n  ret i32 0\n}\n";
 
 /// Two threads that count under a lock, as a compiler of C writes it, with lines left out.
@@ -68,7 +68,6 @@ pub fn sink_of(rt: &impl Abort, alloc: Global, failing: u32) -> MemSink {
     MemSink::new(alloc, 3, fail, 100).expect(rt, "no memory for a sink")
 }
 
-/// How the call `run a b` ends on these files, and what it writes, three bytes at a time, where this
 /// What a check of a file answers and writes, where the read with a number fails.
 pub fn check_on(rt: &impl Abort, alloc: Global, first: &[u8], read: u32) -> (Status, Vec<u8>) {
     let words = words_of(rt, alloc, "check a");
@@ -78,6 +77,7 @@ pub fn check_on(rt: &impl Abort, alloc: Global, first: &[u8], read: u32) -> (Sta
     (status, bytes_of(rt, alloc, out.bytes()))
 }
 
+/// How the call `run a b` ends on these files, and what it writes, three bytes at a time, where this
 /// read and this write fail: they are numbered from 1.
 pub fn run_on(
     rt: &impl Abort,

@@ -227,7 +227,7 @@ impl Process {
 
     /// What the program has given out. It takes no memory.
     pub(crate) fn into_outputs(self) -> Outs
-        ensures { result ≡ self.entry.world.outputs }
+        ensures { result ≡ self.world.outputs }
     {
         let Process { world, .. } = self;
         world.into_outputs()

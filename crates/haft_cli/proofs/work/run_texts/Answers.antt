@@ -1,7 +1,6 @@
-use Rattle.std.proofs.Common.{◌≡◌, Some, IfOk, sym, subst}
+use Rattle.std.proofs.Common.{◌≡◌, Some, IfOk, subst}
 use Rattle.ir_core.specs.Module.{ModuleParts}
 use Rattle.ir_parse_top.proofs.TextLaws.{texts_decided}
-use Rattle.haft_run.specs.Built.{IsBuilt}
 use Rattle.haft_cli.specs.Command.{IsWithin, Checks}
 use Rattle.haft_cli.specs.Work.{IsRunOf}
 use Rattle.haft_cli.specs.declared.command.Command.TheVariants.{Run}
@@ -14,7 +13,7 @@ pub returns-in-Accepted-clause-run : goal.returns-in-Accepted-clause-run
 returns-in-Accepted-clause-run c = λ m s runs.
     let opened : Checks c.args.first.now c.in-Accepted.a = rw c.in-Accepted.is at c.in_ok-a.ensures in
     let same : c.in-Accepted.a ≡ m = texts_decided.one_module c.args.first.now c.in-Accepted.a m opened.module_read runs.module_read in
-    subst (λ (n : ModuleParts). IfOk c.run_text-work.result (IsRunOf n s)) same (c.run_text-work.ensures.run s (subst IsBuilt (sym same) runs.built) runs.schedule_read runs.upset_free)
+    subst (λ (n : ModuleParts). IfOk c.run_text-work.result (IsRunOf n s)) same (c.run_text-work.ensures.run s runs.schedule_read runs.upset_free)
 
 pub returns-in-Turned-clause-work : goal.returns-in-Turned-clause-work
 returns-in-Turned-clause-work c =

@@ -1,0 +1,65 @@
+#!/usr/bin/env bash
+# How long a step of the source takes in a hardened run, and how much memory a run takes, beside the source alone: `haft run` and
+# `haft src` on the same modules (loop_shapes.py) under the same schedules of 4,194,304 turns.
+#
+# A hardened run takes several turns for a step of the source, so that its turns stand for fewer steps: each time is that of the whole
+# run, reading, checking and hardening included, the least of five, divided by the steps that the report tells. The program is
+# crates/haft/out/haft, or $HAFT; it is proved and built first where it is missing (`rt` on the PATH). Needs python3.
+set -eu
+here=$(dirname "$(readlink -f "${BASH_SOURCE[0]}")")
+top=$here/..
+program=${HAFT:-$top/crates/haft/out/haft}
+
+if [ ! -x "$program" ]; then
+    "$top/haft" check "$top/examples/sum.ll" </dev/null >/dev/null
+fi
+
+PYTHONDONTWRITEBYTECODE=1 PYTHONPATH=$here exec python3 - "$program" <<'PY'
+import os, sys, tempfile, time
+
+from loop_shapes import SHAPES
+
+program = sys.argv[1]
+
+
+def run(command, report):
+    """The least of five times in seconds, and the most memory in bytes; what the program writes goes to a file."""
+    best, most = None, 0
+    for _ in range(5):
+        begun = time.monotonic()
+        flags = os.O_WRONLY | os.O_CREAT | os.O_TRUNC
+        pid = os.posix_spawnp(command[0], command, os.environ, file_actions=[(os.POSIX_SPAWN_OPEN, 1, report, flags, 0o600)])
+        _, status, used = os.wait4(pid, 0)
+        took = time.monotonic() - begun
+        if status != 0:
+            sys.exit(f"run.sh: {command} ended with {status}")
+        best = took if best is None else min(best, took)
+        most = max(most, used.ru_maxrss * 1024)
+    return best, most
+
+
+def steps_of(report):
+    """How many steps of the source a report tells."""
+    with open(report) as file:
+        *_, source = file
+    return sum(int(run.split("*")[1]) for run in source.split()[1:])
+
+
+with tempfile.TemporaryDirectory() as work:
+    module, schedule, report = (os.path.join(work, name) for name in ("module.ll", "schedule", "report"))
+    print("| module | command | time | memory | steps | a step | `run` to `src` |")
+    print("|---|---|---|---|---|---|---|")
+    for name, (text, _, turns) in SHAPES.items():
+        with open(module, "w") as file:
+            file.write(text)
+        with open(schedule, "w") as file:
+            file.write(turns)
+        before = None
+        for command in ("src", "run"):
+            took, memory = run([program, command, module, schedule], report)
+            steps = steps_of(report)
+            each = took / steps * 1e9
+            ratio = f"{each / before:.2f}" if before else ""
+            print(f"| {name} | {command} | {took * 1000:.0f} ms | {memory >> 20} MiB | {steps:,} | {each:.0f} ns | {ratio} |")
+            before = each
+PY
