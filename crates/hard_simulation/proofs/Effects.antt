@@ -63,7 +63,8 @@ abbrev pub in_source : Option (Ty × Loc) → Option Loc
 in_source result = option_map (λ (reg : Ty × Loc). reg.1) result
 
 -- the instruction of a frame is about to be done, once; copies of its result follow
-pub record IsReady (m : ModuleParts) (h : HardParts) (sides : Sides) (a : SourceFrame) (b : Frame) (inst : Inst) (result : Option (Ty × Loc)) : Type 0 where
+pub record IsReady (m : ModuleParts) (h : HardParts) (sides : Sides) (a : SourceFrame) (b : Frame) (inst : Inst) (result : Option (Ty × Loc)) : Type
+    0 where
   pub function : b.function ≡ a.function
   pub block : b.block ≡ a.block
   pub mark : b.mark ≡ a.mark
@@ -89,7 +90,8 @@ module _ (m : ModuleParts) (h : HardParts) (sides : Sides) (a : SourceFrame) (b 
     function = r.function;
     block = r.block;
     mark = r.mark;
-    point = Copying (reg ∷ []) r.rest (drop-suc _ b.index _ _ r.code) (rw (drop-suc _ a.index inst r.behind r.left) r.image) (one-fresh reg b.masters a.registers n)
+    point = Copying (reg ∷ []) r.rest (drop-suc _ b.index _ _ r.code) (rw (drop-suc _ a.index inst r.behind r.left) r.image)
+        (one-fresh reg b.masters a.registers n)
         (on-map sides M _ _ (λ (e : Agree b.masters a.registers). put-agrees b.masters a.registers reg.1.0 n e) r.masters)
         (on-map sides S _ _ (λ (e : Agree b.shadows a.registers). one-but reg b.shadows a.registers n e) r.shadows);
   }
@@ -112,58 +114,80 @@ module _ (m : ModuleParts) (h : HardParts) (sides : Sides) (a : SourceFrame) (b 
   }
 
 -- as many frames
-same-count : (m : ModuleParts) (h : HardParts) (sides : Sides) (xs : List SourceFrame) (ys : List Frame) → AreCallers m h sides xs ys → length ys ≡ length xs
+same-count : (m : ModuleParts) (h : HardParts) (sides : Sides) (xs : List SourceFrame) (ys : List Frame) → AreCallers m h sides xs ys
+    → length ys ≡ length xs
 same-count m h sides [] [] is = refl
 same-count m h sides [] (y ∷ ys) is = absurd is
 same-count m h sides (x ∷ xs) [] is = absurd is
 same-count m h sides (x ∷ xs) (y ∷ ys) is = ap suc (same-count m h sides xs ys is.1)
 
 module _ (m : ModuleParts) (h : HardParts) (image : IsImage m h) (arguments : List ℕ) (s : SourceState) (threads : List Thread) (turns : List ℕ)
-    (facts : Facts m h arguments s threads turns) (t : ℕ) (a : SourceStack) (b : CallStack) (sides : Sides) (unhurt : IsHurt sides → ⊥) (stack : IsStack m h sides a b)
+    (facts : Facts m h arguments s threads turns) (t : ℕ) (a : SourceStack) (b : CallStack) (sides : Sides) (unhurt : IsHurt sides → ⊥)
+    (stack : IsStack m h sides a b)
     (at : slice_get s.threads t ≡ Some (source_threads.Running a)) (hard_at : slice_get threads t ≡ Some (Running b)) where
   abbrev pub now : State
   now = machine_of s threads turns
 
   -- the thread has done a step
-  pub moves : (next : SourceThread) (after : Thread) (memory : Memory) (world : WorldParts) → source.step m s t ≡ (record (source.with_thread s t next) { memory = memory; world = world }, Went)
+  pub moves : (next : SourceThread) (after : Thread) (memory : Memory) (world : WorldParts)
+      → source.step m s t ≡ (record (source.with_thread s t next) { memory = memory; world = world }, Went)
       → IsThreadOn m h sides next after
-      → Holds m h arguments (hard.retired true t (record now { process = record { memory = memory; threads = slice_set threads t after; world = world } }))
-  moves next after memory world e is = retires m h arguments s threads turns facts t (record (source.with_thread s t next) { memory = memory; world = world }) (slice_set threads t after) e facts.going
-      (both-moved m h s.threads threads facts.each t (source_threads.Running a) next (Running b) after at hard_at (record { sides = sides; unhurt = unhurt; stands = is }))
+      → Holds m h arguments (hard.retired true t (record now
+      { process = record { memory = memory; threads = slice_set threads t after; world = world } }))
+  moves next after memory world e is = retires m h arguments s threads turns facts t
+      (record (source.with_thread s t next) { memory = memory; world = world }) (slice_set threads t after) e facts.going
+      (both-moved m h s.threads threads facts.each t (source_threads.Running a) next (Running b) after at hard_at
+      (record { sides = sides; unhurt = unhurt; stands = is }))
 
   -- a local action that both machines can do, or neither
   pub local-kept : (action : Action) (dst : Option Loc) (hard_dst : Option (Side × Loc)) → source.step m s t ≡ source.local m s t dst a action
       → ((cause : Cause) → (source.step m s t).1 ≡ Undefined cause → ⊥)
       → hard.failure h s.memory.places t b action ≡ source.failure m s.memory.places t a action
-      → IsThreadOn m h sides (source.thread_after m dst a action (word_read s.memory action)) (hard.thread_after h hard_dst b action (word_read s.memory action))
+      → IsThreadOn m h sides (source.thread_after m dst a action (word_read s.memory action))
+      (hard.thread_after h hard_dst b action (word_read s.memory action))
       → Holds m h arguments (hard.settled h now t b.frame true (hard.local h now.process t hard_dst b action))
   local-kept action dst hard_dst steps defined same is = by_failure (source.failure m s.memory.places t a action) refl
     where
-      by_failure : (o : Option Cause) → source.failure m s.memory.places t a action ≡ o → Holds m h arguments (hard.settled h now t b.frame true (hard.local h now.process t hard_dst b action))
+      by_failure : (o : Option Cause) → source.failure m s.memory.places t a action ≡ o
+          → Holds m h arguments (hard.settled h now t b.frame true (hard.local h now.process t hard_dst b action))
       by_failure None e = rw (same, e) (moves _ _ (memory_after action (word_read s.memory action) s.memory) s.world (steps ∙ rw e refl) is)
       by_failure (Some cause) e = absurd (defined cause (ap (λ (p : SourceState × Step). p.1) steps ∙ rw e refl))
 
   -- the word goes to a register of the source and to the master's
   module _ (inst : Inst) (result : Option (Ty × Loc)) (ready : IsReady m h sides a.frame b.frame inst result) where
-    done-thread : (n : ℕ) → IsThreadOn m h sides (source.in_frame a (source.resulted (in_source result) n a.frame)) (hard.in_frame b (hard.resulted (on_master result) n b.frame))
+    done-thread : (n : ℕ) → IsThreadOn m h sides (source.in_frame a (source.resulted (in_source result) n a.frame))
+        (hard.in_frame b (hard.resulted (on_master result) n b.frame))
     done-thread n = record { mark = stack.mark; frame = done-frame m h sides a.frame b.frame inst result n ready; callers = stack.callers }
 
     passed-thread : result ≡ None → IsThreadOn m h sides (source.in_frame a (source.passed a.frame)) (hard.in_frame b (hard.passed b.frame))
-    passed-thread none = subst (λ (r : Option (Ty × Loc)). IsThreadOn m h sides (source.in_frame a (source.resulted (in_source r) 0 a.frame)) (hard.in_frame b (hard.resulted (on_master r) 0 b.frame))) none (done-thread 0)
+    passed-thread none = subst (λ (r : Option (Ty × Loc)). IsThreadOn m h sides (source.in_frame a (source.resulted (in_source r) 0 a.frame))
+        (hard.in_frame b (hard.resulted (on_master r) 0 b.frame))) none (done-thread 0)
 
     reserved-same : hard.reserved b ≡ source.reserved a
     reserved-same = rw stack.mark refl
 
     reserved-thread : (size : ℕ) → IsThreadOn m h sides
-        (source_threads.Running (record a { mark = source.reserved a + size; frame = source.resulted (in_source result) (source.reserved a) a.frame }))
+        (source_threads.Running (record a {
+          mark = source.reserved a + size;
+          frame = source.resulted (in_source result) (source.reserved a) a.frame;
+        }))
         (Running (record b { mark = hard.reserved b + size; frame = hard.resulted (on_master result) (hard.reserved b) b.frame }))
-    reserved-thread size = rw reserved-same (record { mark = refl; frame = done-frame m h sides a.frame b.frame inst result (source.reserved a) ready; callers = stack.callers })
+    reserved-thread size = rw reserved-same (record {
+      mark = refl;
+      frame = done-frame m h sides a.frame b.frame inst result (source.reserved a)
+          ready;
+      callers = stack.callers;
+    })
 
     count-same : hard.frame_count b ≡ source.frame_count a
     count-same = ap suc (same-count m h sides a.callers b.callers stack.callers)
 
     called-thread : (n : ℕ) (words : List ℕ) → Enters m n (length words) → IsThreadOn m h sides
-        (source_threads.Running (record a { frame = source_state.entry_frame m n words a.mark; callers = source.suspended (in_source result) a.frame ∷ a.callers }))
+        (source_threads.Running (record a {
+          frame = source_state.entry_frame m n words a.mark;
+          callers = source.suspended (in_source result)
+              a.frame ∷ a.callers;
+        }))
         (Running (record b { frame = hard_state.entry_frame h n words b.mark; callers = hard.suspended (on_master result) b.frame ∷ b.callers }))
     called-thread n words enters = rw stack.mark (record {
       mark = refl;
@@ -171,45 +195,61 @@ module _ (m : ModuleParts) (h : HardParts) (image : IsImage m h) (arguments : Li
       callers = (waiting-frame m h sides a.frame b.frame inst result ready, stack.callers);
     })
 
-    returned-thread : (n : ℕ) (xs : List SourceFrame) (ys : List Frame) → AreCallers m h sides xs ys → IsThreadOn m h sides (source.returned n a.frame.mark xs) (hard.returned n b.frame.mark ys)
+    returned-thread : (n : ℕ) (xs : List SourceFrame) (ys : List Frame) → AreCallers m h sides xs ys
+        → IsThreadOn m h sides (source.returned n a.frame.mark xs) (hard.returned n b.frame.mark ys)
     returned-thread n [] [] is = refl
     returned-thread n [] (y ∷ ys) is = absurd is
     returned-thread n (x ∷ xs) [] is = absurd is
     returned-thread n (x ∷ xs) (y ∷ ys) is = record { mark = ready.mark; frame = resumed-frame m h image sides x y n is.0; callers = is.1 }
 
     -- what a thread does alone with memory
-    pub assign-kept : (n : ℕ) → source.step m s t ≡ source.acted m s t (in_source result) a (Assign n) → ((cause : Cause) → (source.step m s t).1 ≡ Undefined cause → ⊥)
+    pub assign-kept : (n : ℕ) → source.step m s t ≡ source.acted m s t (in_source result) a (Assign n)
+        → ((cause : Cause) → (source.step m s t).1 ≡ Undefined cause → ⊥)
         → Holds m h arguments (hard.settled h now t b.frame true (hard.acted h now.process t (on_master result) b (Assign n)))
     assign-kept n steps defined = local-kept (Assign n) (in_source result) (on_master result) steps defined refl (done-thread n)
 
-    pub reserve-kept : (size : ℕ) → source.step m s t ≡ source.acted m s t (in_source result) a (Reserve size) → ((cause : Cause) → (source.step m s t).1 ≡ Undefined cause → ⊥)
+    pub reserve-kept : (size : ℕ) → source.step m s t ≡ source.acted m s t (in_source result) a (Reserve size)
+        → ((cause : Cause) → (source.step m s t).1 ≡ Undefined cause → ⊥)
         → Holds m h arguments (hard.settled h now t b.frame true (hard.acted h now.process t (on_master result) b (Reserve size)))
-    reserve-kept size steps defined = local-kept (Reserve size) (in_source result) (on_master result) steps defined (rw reserved-same refl) (reserved-thread size)
+    reserve-kept size steps defined = local-kept (Reserve size) (in_source result) (on_master result) steps defined (rw reserved-same refl)
+        (reserved-thread size)
 
-    pub read-kept : (place : Place) (atomic : Bool) → source.step m s t ≡ source.acted m s t (in_source result) a (Read place atomic) → ((cause : Cause) → (source.step m s t).1 ≡ Undefined cause → ⊥)
+    pub read-kept : (place : Place) (atomic : Bool) → source.step m s t ≡ source.acted m s t (in_source result) a (Read place atomic)
+        → ((cause : Cause) → (source.step m s t).1 ≡ Undefined cause → ⊥)
         → Holds m h arguments (hard.settled h now t b.frame true (hard.acted h now.process t (on_master result) b (Read place atomic)))
-    read-kept place atomic steps defined = local-kept (Read place atomic) (in_source result) (on_master result) steps defined refl (done-thread (word_read s.memory (Read place atomic)))
+    read-kept place atomic steps defined = local-kept (Read place atomic) (in_source result) (on_master result) steps defined refl
+        (done-thread (word_read s.memory (Read place atomic)))
 
-    pub write-kept : (place : Place) (n : ℕ) (atomic : Bool) → result ≡ None → source.step m s t ≡ source.acted m s t (in_source result) a (Write place n atomic) → ((cause : Cause) → (source.step m s t).1 ≡ Undefined cause → ⊥)
+    pub write-kept : (place : Place) (n : ℕ) (atomic : Bool) → result ≡ None
+        → source.step m s t ≡ source.acted m s t (in_source result) a (Write place n atomic)
+        → ((cause : Cause) → (source.step m s t).1 ≡ Undefined cause → ⊥)
         → Holds m h arguments (hard.settled h now t b.frame true (hard.acted h now.process t (on_master result) b (Write place n atomic)))
-    write-kept place n atomic none steps defined = local-kept (Write place n atomic) (in_source result) (on_master result) steps defined refl (passed-thread none)
+    write-kept place n atomic none steps defined = local-kept (Write place n atomic) (in_source result) (on_master result) steps defined refl
+        (passed-thread none)
 
-    pub update-kept : (place : Place) (update : Updates) → source.step m s t ≡ source.acted m s t (in_source result) a (Update place update) → ((cause : Cause) → (source.step m s t).1 ≡ Undefined cause → ⊥)
+    pub update-kept : (place : Place) (update : Updates) → source.step m s t ≡ source.acted m s t (in_source result) a (Update place update)
+        → ((cause : Cause) → (source.step m s t).1 ≡ Undefined cause → ⊥)
         → Holds m h arguments (hard.settled h now t b.frame true (hard.acted h now.process t (on_master result) b (Update place update)))
     update-kept place update steps defined =
-        local-kept (Update place update) (in_source result) (on_master result) steps defined refl (done-thread (found update (word_read s.memory (Update place update))))
+        local-kept (Update place update) (in_source result) (on_master result) steps defined refl
+        (done-thread (found update (word_read s.memory (Update place update))))
 
-    pub pass-kept : result ≡ None → source.step m s t ≡ source.acted m s t (in_source result) a Pass → ((cause : Cause) → (source.step m s t).1 ≡ Undefined cause → ⊥)
+    pub pass-kept : result ≡ None → source.step m s t ≡ source.acted m s t (in_source result) a Pass
+        → ((cause : Cause) → (source.step m s t).1 ≡ Undefined cause → ⊥)
         → Holds m h arguments (hard.settled h now t b.frame true (hard.acted h now.process t (on_master result) b Pass))
     pass-kept none steps defined = local-kept Pass (in_source result) (on_master result) steps defined refl (passed-thread none)
 
-    pub call-kept : (n : ℕ) (words : List ℕ) → Enters m n (length words) → source.step m s t ≡ source.acted m s t (in_source result) a (Call n words) → ((cause : Cause) → (source.step m s t).1 ≡ Undefined cause → ⊥)
+    pub call-kept : (n : ℕ) (words : List ℕ) → Enters m n (length words) → source.step m s t ≡ source.acted m s t (in_source result) a (Call n words)
+        → ((cause : Cause) → (source.step m s t).1 ≡ Undefined cause → ⊥)
         → Holds m h arguments (hard.settled h now t b.frame true (hard.acted h now.process t (on_master result) b (Call n words)))
-    call-kept n words enters steps defined = local-kept (Call n words) (in_source result) (on_master result) steps defined (rw count-same refl) (called-thread n words enters)
+    call-kept n words enters steps defined = local-kept (Call n words) (in_source result) (on_master result) steps defined (rw count-same refl)
+        (called-thread n words enters)
 
-    pub return-kept : (n : ℕ) → source.step m s t ≡ source.acted m s t (in_source result) a (Return n) → ((cause : Cause) → (source.step m s t).1 ≡ Undefined cause → ⊥)
+    pub return-kept : (n : ℕ) → source.step m s t ≡ source.acted m s t (in_source result) a (Return n)
+        → ((cause : Cause) → (source.step m s t).1 ≡ Undefined cause → ⊥)
         → Holds m h arguments (hard.settled h now t b.frame true (hard.acted h now.process t (on_master result) b (Return n)))
-    return-kept n steps defined = local-kept (Return n) (in_source result) (on_master result) steps defined refl (returned-thread n a.callers b.callers stack.callers)
+    return-kept n steps defined = local-kept (Return n) (in_source result) (on_master result) steps defined refl
+        (returned-thread n a.callers b.callers stack.callers)
 
     -- the program ends
     pub exit-kept : (code : ℕ) → source.step m s t ≡ source.acted m s t (in_source result) a (Exit code)
@@ -217,11 +257,15 @@ module _ (m : ModuleParts) (h : HardParts) (image : IsImage m h) (arguments : Li
     exit-kept code steps = ends m h arguments s threads turns facts t (record s { ended = true }) (code % 2 ^ 32) steps refl
 
     -- a call of an external
-    answered : (n : ℕ) (memory : Memory) (world : WorldParts) → source.step m s t ≡ (record (source.call_done s t (in_source result) a n) { memory = memory; world = world }, Went)
-        → Holds m h arguments (hard.retired true t (record now { process = record (hard.call_done now.process t (on_master result) b n) { memory = memory; world = world } }))
-    answered n memory world e = moves (source.in_frame a (source.resulted (in_source result) n a.frame)) (hard.in_frame b (hard.resulted (on_master result) n b.frame)) memory world e (done-thread n)
+    answered : (n : ℕ) (memory : Memory) (world : WorldParts)
+        → source.step m s t ≡ (record (source.call_done s t (in_source result) a n) { memory = memory; world = world }, Went)
+        → Holds m h arguments (hard.retired true t (record now
+        { process = record (hard.call_done now.process t (on_master result) b n) { memory = memory; world = world } }))
+    answered n memory world e = moves (source.in_frame a (source.resulted (in_source result) n a.frame))
+        (hard.in_frame b (hard.resulted (on_master result) n b.frame)) memory world e (done-thread n)
 
-    pub ask-kept : (request : Request) → source.step m s t ≡ source.acted m s t (in_source result) a (Ask request) → ((cause : Cause) → (source.step m s t).1 ≡ Undefined cause → ⊥)
+    pub ask-kept : (request : Request) → source.step m s t ≡ source.acted m s t (in_source result) a (Ask request)
+        → ((cause : Cause) → (source.step m s t).1 ≡ Undefined cause → ⊥)
         → Holds m h arguments (hard.settled h now t b.frame true (hard.acted h now.process t (on_master result) b (Ask request)))
     ask-kept request steps defined = by_reply (asked_of request t s.world).0 (asked_of request t s.world).1 steps
       where
@@ -231,11 +275,13 @@ module _ (m : ModuleParts) (h : HardParts) (image : IsImage m h) (arguments : Li
         by_reply world MustWait e = waits m h arguments s threads turns facts t
         by_reply world (Refuses cause) e = absurd (defined cause (ap (λ (p : SourceState × Step). p.1) e))
 
-    pub join-kept : (other : ℕ) → source.step m s t ≡ source.acted m s t (in_source result) a (Join other) → ((cause : Cause) → (source.step m s t).1 ≡ Undefined cause → ⊥)
+    pub join-kept : (other : ℕ) → source.step m s t ≡ source.acted m s t (in_source result) a (Join other)
+        → ((cause : Cause) → (source.step m s t).1 ≡ Undefined cause → ⊥)
         → Holds m h arguments (hard.settled h now t b.frame true (hard.acted h now.process t (on_master result) b (Join other)))
     join-kept other steps defined = by_thread (slice_get s.threads other) (slice_get threads other) (facts.each.each other) steps
       where
-        by_stands : (x : SourceThread) (y : Thread) (on : Sides) → IsThreadOn m h on x y → source.step m s t ≡ source.joined s t (in_source result) a (Some x)
+        by_stands : (x : SourceThread) (y : Thread) (on : Sides) → IsThreadOn m h on x y
+            → source.step m s t ≡ source.joined s t (in_source result) a (Some x)
             → Holds m h arguments (hard.settled h now t b.frame true (hard.joined now.process t (on_master result) b (Some y)))
         by_stands (source_threads.Running x) (Running y) on is e = waits m h arguments s threads turns facts t
         by_stands (source_threads.Running x) (Exiting k) on is e = absurd is
@@ -247,7 +293,8 @@ module _ (m : ModuleParts) (h : HardParts) (image : IsImage m h) (arguments : Li
         by_stands source_threads.Ended (Exiting k) on is e = absurd is
         by_stands source_threads.Ended Ended on is e = answered 0 s.memory s.world e
 
-        by_thread : (x : Option SourceThread) (y : Option Thread) → AreThreadsAt m h x y → source.step m s t ≡ source.joined s t (in_source result) a x
+        by_thread : (x : Option SourceThread) (y : Option Thread) → AreThreadsAt m h x y
+            → source.step m s t ≡ source.joined s t (in_source result) a x
             → Holds m h arguments (hard.settled h now t b.frame true (hard.joined now.process t (on_master result) b y))
         by_thread None None is e = absurd (defined JoinCause (ap (λ (p : SourceState × Step). p.1) e))
         by_thread None (Some y) is e = absurd is
@@ -255,39 +302,54 @@ module _ (m : ModuleParts) (h : HardParts) (image : IsImage m h) (arguments : Li
         by_thread (Some x) (Some y) is e = by_stands x y is.sides is.stands e
 
     -- a thread is made
-    pub create-kept : (address n argument : ℕ) → Enters m n 1 → source.step m s t ≡ source.acted m s t (in_source result) a (Create address n argument) → ((cause : Cause) → (source.step m s t).1 ≡ Undefined cause → ⊥)
+    pub create-kept : (address n argument : ℕ) → Enters m n 1
+        → source.step m s t ≡ source.acted m s t (in_source result) a (Create address n argument)
+        → ((cause : Cause) → (source.step m s t).1 ≡ Undefined cause → ⊥)
         → Holds m h arguments (hard.settled h now t b.frame true (hard.acted h now.process t (on_master result) b (Create address n argument)))
     create-kept address n argument enters steps defined =
         rw facts.each.count (by_room (nat_lt (length s.threads) thread_limit) (is_valid s.memory.places address 8) steps)
       where
-        new-thread : IsThread m h (source_state.new_thread m (length s.threads) n (argument ∷ [])) (hard_state.new_thread h (length s.threads) n (argument ∷ []))
+        new-thread : IsThread m h (source_state.new_thread m (length s.threads) n (argument ∷ []))
+            (hard_state.new_thread h (length s.threads) n (argument ∷ []))
         new-thread = record {
           sides = Both;
           unhurt = λ hurt. hurt;
-          stands = record { mark = refl; frame = entered-frame m h image Both n (argument ∷ []) (source_state.stack_start (length s.threads)) enters; callers = tt };
+          stands = record {
+            mark = refl;
+            frame = entered-frame m h image Both n (argument ∷ []) (source_state.stack_start (length s.threads)) enters;
+            callers = tt;
+          };
         }
 
         made : source.step m s t ≡ (source.thread_added m s t (in_source result) a address n argument, Went)
-            → Holds m h arguments (hard.retired true t (record now { process = hard.thread_added h now.process t (on_master result) b address n argument }))
-        made e = rw facts.each.count (retires m h arguments s threads turns facts t (source.thread_added m s t (in_source result) a address n argument)
-            (slice_set threads t (hard.in_frame b (hard.resulted (on_master result) 0 b.frame)) ++ hard_state.new_thread h (length s.threads) n (argument ∷ []) ∷ []) e facts.going
-            (one-more m h _ _ (both-moved m h s.threads threads facts.each t (source_threads.Running a) (source.in_frame a (source.resulted (in_source result) 0 a.frame)) (Running b)
-            (hard.in_frame b (hard.resulted (on_master result) 0 b.frame)) at hard_at (record { sides = sides; unhurt = unhurt; stands = done-thread 0 })) _ _ new-thread))
+            → Holds m h arguments (hard.retired true t (record now
+            { process = hard.thread_added h now.process t (on_master result) b address n argument }))
+        made e = rw facts.each.count (retires m h arguments s threads turns facts t
+            (source.thread_added m s t (in_source result) a address n argument)
+            (slice_set threads t (hard.in_frame b (hard.resulted (on_master result) 0 b.frame)) ++ hard_state.new_thread h (length s.threads) n
+            (argument ∷ []) ∷ []) e facts.going
+            (one-more m h _ _ (both-moved m h s.threads threads facts.each t (source_threads.Running a)
+            (source.in_frame a (source.resulted (in_source result) 0 a.frame)) (Running b)
+            (hard.in_frame b (hard.resulted (on_master result) 0 b.frame)) at hard_at
+            (record { sides = sides; unhurt = unhurt; stands = done-thread 0 })) _ _ new-thread))
 
         by_room : (room valid : Bool) → source.step m s t ≡ source.created m s t (in_source result) a address n argument room valid
-            → Holds m h arguments (hard.settled h now t b.frame true (hard.created h now.process t (on_master result) b address n argument room valid))
+            → Holds m h arguments (hard.settled h now t b.frame true
+            (hard.created h now.process t (on_master result) b address n argument room valid))
         by_room true true e = made e
         by_room true false e = absurd (defined Access (ap (λ (p : SourceState × Step). p.1) e))
         by_room false true e = answered 11 s.memory s.world e
         by_room false false e = answered 11 s.memory s.world e
 
     -- the action isn't defined
-    pub fault-kept : (cause : Cause) → source.step m s t ≡ source.acted m s t (in_source result) a (Fault cause) → ((cause : Cause) → (source.step m s t).1 ≡ Undefined cause → ⊥)
+    pub fault-kept : (cause : Cause) → source.step m s t ≡ source.acted m s t (in_source result) a (Fault cause)
+        → ((cause : Cause) → (source.step m s t).1 ≡ Undefined cause → ⊥)
         → Holds m h arguments (hard.settled h now t b.frame true (hard.acted h now.process t (on_master result) b (Fault cause)))
     fault-kept cause steps defined = absurd (defined cause (ap (λ (p : SourceState × Step). p.1) steps))
 
     -- it goes along an edge
-    pub jump-kept : (label : Loc) → source.step m s t ≡ source.acted m s t (in_source result) a (Jump label) → ((cause : Cause) → (source.step m s t).1 ≡ Undefined cause → ⊥)
+    pub jump-kept : (label : Loc) → source.step m s t ≡ source.acted m s t (in_source result) a (Jump label)
+        → ((cause : Cause) → (source.step m s t).1 ≡ Undefined cause → ⊥)
         → ((frame : SourceFrame) → source.jumped m a.frame label ≡ Some frame → IsLanding m h sides frame (hard.jumped h b.frame label))
         → Holds m h arguments (hard.settled h now t b.frame true (hard.acted h now.process t (on_master result) b (Jump label)))
     jump-kept label steps defined lands = by_jump (source.jumped m a.frame label) refl
@@ -298,7 +360,8 @@ module _ (m : ModuleParts) (h : HardParts) (image : IsImage m h) (arguments : Li
         by_landing frame e (Landed other some is) = local-kept (Jump label) (in_source result) (on_master result) steps defined (rw (e, some) refl)
             (rw (e, some) (record { mark = stack.mark; frame = is; callers = stack.callers }))
 
-        by_jump : (o : Option SourceFrame) → source.jumped m a.frame label ≡ o → Holds m h arguments (hard.settled h now t b.frame true (hard.acted h now.process t (on_master result) b (Jump label)))
+        by_jump : (o : Option SourceFrame) → source.jumped m a.frame label ≡ o
+            → Holds m h arguments (hard.settled h now t b.frame true (hard.acted h now.process t (on_master result) b (Jump label)))
         by_jump None e =
             let stays : source.acted m s t (in_source result) a (Jump label) ≡ (s, Undefined Unreachable) = rw e refl in
             absurd (defined Unreachable (ap (λ (p : SourceState × Step). p.1) (steps ∙ stays)))

@@ -49,24 +49,30 @@ get-drop-none (y ∷ xs) zero e = cc
 get-drop-none (y ∷ xs) (suc at) e = get-drop-none xs at e
 
 -- the block of a frame in the hardened module
-pub hard-block : (m : ModuleParts) (h : HardParts) (image : IsImage m h) (n b : ℕ) (block : Block) → slice_get (source_state.blocks_at m.funcs n) b ≡ Some block
+pub hard-block : (m : ModuleParts) (h : HardParts) (image : IsImage m h) (n b : ℕ) (block : Block)
+    → slice_get (source_state.blocks_at m.funcs n) b ≡ Some block
     → (hard_block : HBlock) × (slice_get (hard_state.blocks_at h n) b ≡ Some hard_block) × IsBlockImage (copied_at m n b) block hard_block
-hard-block m h image n b block e = by_hard (slice_get (hard_state.blocks_at h n) b) refl (subst (λ (o : Option Block). AreBlockImages (copied_at m n b) o (slice_get (hard_state.blocks_at h n) b)) e (image.blocks n b))
+hard-block m h image n b block e = by_hard (slice_get (hard_state.blocks_at h n) b) refl
+    (subst (λ (o : Option Block). AreBlockImages (copied_at m n b) o (slice_get (hard_state.blocks_at h n) b)) e (image.blocks n b))
   where
-    by_hard : (o : Option HBlock) → slice_get (hard_state.blocks_at h n) b ≡ o → AreBlockImages (copied_at m n b) (Some block) (slice_get (hard_state.blocks_at h n) b)
+    by_hard : (o : Option HBlock) → slice_get (hard_state.blocks_at h n) b ≡ o
+        → AreBlockImages (copied_at m n b) (Some block) (slice_get (hard_state.blocks_at h n) b)
         → (hard_block : HBlock) × (slice_get (hard_state.blocks_at h n) b ≡ Some hard_block) × IsBlockImage (copied_at m n b) block hard_block
     by_hard None f k = absurd (subst (λ (o : Option HBlock). AreBlockImages (copied_at m n b) (Some block) o) f k)
     by_hard (Some hard_block) f k = (hard_block, f, subst (λ (o : Option HBlock). AreBlockImages (copied_at m n b) (Some block) o) f k)
 
 module _ (m : ModuleParts) (h : HardParts) (image : IsImage m h) (sides : Sides) where
   -- at the entry of a function only the parameters have words, and only the masters
-  pub entered-frame : (n : ℕ) (words : List ℕ) (mark : ℕ) → Enters m n (length words) → IsFrame m h sides (source_state.entry_frame m n words mark) (hard_state.entry_frame h n words mark)
+  pub entered-frame : (n : ℕ) (words : List ℕ) (mark : ℕ) → Enters m n (length words)
+      → IsFrame m h sides (source_state.entry_frame m n words mark) (hard_state.entry_frame h n words mark)
   entered-frame n words mark enters = record {
     function = refl;
     block = refl;
     mark = refl;
-    point = subst (λ (masters : List (Option ℕ)). Stands m sides (source_code m (source_state.entry_frame m n words mark)) registers (hard_code h (hard_state.entry_frame h n words mark)) masters [])
-        (ap (λ (params : List Loc). all_assigned (zip params words) []) (sym (heads-params m h image n))) (by_block (slice_get (source_state.blocks_at m.funcs n) 0) refl);
+    point = subst (λ (masters : List (Option ℕ)). Stands m sides (source_code m (source_state.entry_frame m n words mark)) registers
+        (hard_code h (hard_state.entry_frame h n words mark)) masters [])
+        (ap (λ (params : List Loc). all_assigned (zip params words) []) (sym (heads-params m h image n)))
+        (by_block (slice_get (source_state.blocks_at m.funcs n) 0) refl);
   }
     where
       registers : List (Option ℕ)
@@ -79,15 +85,18 @@ module _ (m : ModuleParts) (h : HardParts) (image : IsImage m h) (sides : Sides)
       copied-are = ap (λ (o : Option FuncParts). option_map_or (λ (f : FuncParts). f.params) o []) enters.stands
 
       given : (at : ℕ) → is_among at enters.f.params ≡ true → is_some (get registers at) ≡ true
-      given at e = rw params-are (all-there (zip (map (λ param. param.1) enters.f.params) words) [] (record { 0 = at }) (params-given enters.f.params words (record { 0 = at }) enters.params e))
+      given at e = rw params-are (all-there (zip (map (λ param. param.1) enters.f.params) words) [] (record { 0 = at })
+          (params-given enters.f.params words (record { 0 = at }) enters.params e))
 
       by_block : (o : Option Block) → slice_get (source_state.blocks_at m.funcs n) 0 ≡ o
-          → Stands m sides (source_code m (source_state.entry_frame m n words mark)) registers (hard_code h (hard_state.entry_frame h n words mark)) registers []
+          → Stands m sides (source_code m (source_state.entry_frame m n words mark)) registers (hard_code h (hard_state.entry_frame h n words mark))
+          registers []
       by_block None e = Nowhere (ap (λ (o : Option Block). option_map_or (λ (block : Block). block.insts) o []) e)
       by_block (Some block) e =
           let hard = hard-block m h image n 0 block e in
           Copying enters.f.params hard.2.rest
-          (ap (λ (o : Option HBlock). option_map_or (λ (block : HBlock). block.list) o []) hard.1 ∙ hard.2.list ∙ ap (λ (regs : List (Ty × Loc)). copies_onto regs hard.2.rest) copied-are)
+          (ap (λ (o : Option HBlock). option_map_or (λ (block : HBlock). block.list) o []) hard.1 ∙ hard.2.list
+          ∙ ap (λ (regs : List (Ty × Loc)). copies_onto regs hard.2.rest) copied-are)
           (rw (ap (λ (o : Option Block). option_map_or (λ (block : Block). block.insts) o []) e) hard.2.image)
           (record { same = λ at f. refl; given = given })
           (on-pure sides M _ (agree-refl registers))
@@ -105,7 +114,8 @@ module _ (m : ModuleParts) (h : HardParts) (image : IsImage m h) (sides : Sides)
             function = c.function;
             block = c.block;
             mark = c.mark;
-            point = At (subst (λ (code : List _). Image (source_code m a) code) (sym (c.code ∙ ap (λ (result : Option (Ty × Loc)). copies result ++ c.rest) e)) c.image) c.masters c.shadows;
+            point = At (subst (λ (code : List _). Image (source_code m a) code)
+                (sym (c.code ∙ ap (λ (result : Option (Ty × Loc)). copies result ++ c.rest) e)) c.image) c.masters c.shadows;
           })
       by_result (Some reg) e =
           let waits : a.waiting ≡ Some reg.1 = c.waits ∙ ap (option_map (λ (reg : Ty × Loc). reg.1)) e in
@@ -114,7 +124,8 @@ module _ (m : ModuleParts) (h : HardParts) (image : IsImage m h) (sides : Sides)
             function = c.function;
             block = c.block;
             mark = c.mark;
-            point = Copying (reg ∷ []) c.rest (c.code ∙ ap (λ (result : Option (Ty × Loc)). copies result ++ c.rest) e) c.image (one-fresh reg b.masters a.registers n)
+            point = Copying (reg ∷ []) c.rest (c.code ∙ ap (λ (result : Option (Ty × Loc)). copies result ++ c.rest) e) c.image
+                (one-fresh reg b.masters a.registers n)
                 (on-map sides M _ _ (λ (e : Agree b.masters a.registers). put-agrees b.masters a.registers reg.1.0 n e) c.masters)
                 (on-map sides S _ _ (λ (e : Agree b.shadows a.registers). one-but reg b.shadows a.registers n e) c.shadows);
           })

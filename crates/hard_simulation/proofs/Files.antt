@@ -79,7 +79,10 @@ copied-one reg regs shadows b word e h = record { but = λ at n. by_name at (nat
 
 -- a word is put on the master's side and in the source, and is still to be copied
 pub one-but : (reg : Ty × Loc) (shadows b : List (Option ℕ)) (word : ℕ) → Agree shadows b → AgreeBut (reg ∷ []) shadows (put b reg.1.0 word)
-one-but reg shadows b word h = record { but = λ at n. h.same at ∙ sym (put-other b reg.1.0 word at (eqb-false reg.1.0 at (alone (nat_eq reg.1.0 at) n))) }
+one-but reg shadows b word h = record {
+  but = λ at n. h.same at
+      ∙ sym (put-other b reg.1.0 word at (eqb-false reg.1.0 at (alone (nat_eq reg.1.0 at) n)));
+}
   where
     alone : (same : Bool) → (same || false) ≡ false → same ≡ false
     alone true e = cc
@@ -98,7 +101,8 @@ one-fresh reg masters b word = record {
     here : (at : ℕ) → nat_eq reg.1.0 at ≡ true → get (put masters reg.1.0 word) at ≡ get (put b reg.1.0 word) at
     here at f =
         let is : reg.1.0 ≡ at = eqb-true reg.1.0 at f in
-        ap (get (put masters reg.1.0 word)) (sym is) ∙ put-same masters reg.1.0 word ∙ sym (put-same b reg.1.0 word) ∙ ap (get (put b reg.1.0 word)) is
+        ap (get (put masters reg.1.0 word)) (sym is) ∙ put-same masters reg.1.0 word ∙ sym (put-same b reg.1.0 word)
+        ∙ ap (get (put b reg.1.0 word)) is
 
     has : (at : ℕ) → nat_eq reg.1.0 at ≡ true → is_some (get (put b reg.1.0 word) at) ≡ true
     has at f =

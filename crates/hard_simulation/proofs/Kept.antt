@@ -41,46 +41,59 @@ pub record Facts (m : ModuleParts) (h : HardParts) (arguments : List ℕ) (s : S
 
 -- what holds of a machine: it runs and stands for the source; the program has ended in both; or the source is undefined on its turns
 pub data Holds (m : ModuleParts) (h : HardParts) (arguments : List ℕ) (now : State) : Type 0 where
-  Runs : (s : SourceState) (threads : List Thread) (turns : List ℕ) → now ≡ machine_of s threads turns → Facts m h arguments s threads turns → Holds m h arguments now
-  Over : (code : ℕ) → now.stop ≡ Some (End code) → AllWent (source m arguments now.turns).answers → code_of (source m arguments now.turns).answers ≡ Some code
+  Runs : (s : SourceState) (threads : List Thread) (turns : List ℕ) → now ≡ machine_of s threads turns → Facts m h arguments s threads turns
+      → Holds m h arguments now
+  Over : (code : ℕ) → now.stop ≡ Some (End code) → AllWent (source m arguments now.turns).answers
+      → code_of (source m arguments now.turns).answers ≡ Some code
       → now.process.world.outputs ≡ (source m arguments now.turns).state.world.outputs → Holds m h arguments now
   NotDefined : IsUndefinedOn m arguments now.turns → Holds m h arguments now
 
-module _ (m : ModuleParts) (h : HardParts) (arguments : List ℕ) (s : SourceState) (threads : List Thread) (turns : List ℕ) (facts : Facts m h arguments s threads turns) (t : ℕ) where
+module _ (m : ModuleParts) (h : HardParts) (arguments : List ℕ) (s : SourceState) (threads : List Thread) (turns : List ℕ)
+    (facts : Facts m h arguments s threads turns) (t : ℕ) where
   -- nothing has happened
   pub waits : Holds m h arguments (machine_of s threads turns)
   waits = Runs s threads turns refl facts
 
   -- a step of the source has become a turn
   pub retires : (next : SourceState) (others : List Thread) → step m s t ≡ (next, Went) → next.ended ≡ false → AreThreads m h next.threads others
-      → Holds m h arguments (retired true t (record (machine_of s threads turns) { process = record { memory = next.memory; threads = others; world = next.world } }))
+      → Holds m h arguments (retired true t (record (machine_of s threads turns)
+      { process = record { memory = next.memory; threads = others; world = next.world } }))
   retires next others e going all = Runs next others (turns ++ t ∷ []) refl (record {
     state = state-more m arguments turns t ∙ ap (λ (now : SourceState). (step m now t).0) facts.state ∙ ap (λ (p : SourceState × Step). p.0) e;
-    went = subst (λ (answers : List Step). AllWent answers) (sym (answers-are Went (ap (λ (p : SourceState × Step). p.1) e))) (went-more (source m arguments turns).answers facts.went facts.unended);
-    unended = ap code_of (answers-are Went (ap (λ (p : SourceState × Step). p.1) e)) ∙ code-went (source m arguments turns).answers facts.went facts.unended;
+    went = subst (λ (answers : List Step). AllWent answers) (sym (answers-are Went (ap (λ (p : SourceState × Step). p.1) e)))
+        (went-more (source m arguments turns).answers facts.went facts.unended);
+    unended = ap code_of (answers-are Went (ap (λ (p : SourceState × Step). p.1) e))
+        ∙ code-went (source m arguments turns).answers facts.went facts.unended;
     going = going;
     each = all;
   })
     where
-      answers-are : (answer : Step) → (step m s t).1 ≡ answer → (source m arguments (turns ++ t ∷ [])).answers ≡ (source m arguments turns).answers ++ answer ∷ []
-      answers-are answer f = answers-more m arguments turns t ∙ ap (λ (last : Step). (source m arguments turns).answers ++ last ∷ []) (ap (λ (now : SourceState). (step m now t).1) facts.state ∙ f)
+      answers-are : (answer : Step) → (step m s t).1 ≡ answer
+          → (source m arguments (turns ++ t ∷ [])).answers ≡ (source m arguments turns).answers ++ answer ∷ []
+      answers-are answer f = answers-more m arguments turns t
+          ∙ ap (λ (last : Step). (source m arguments turns).answers ++ last ∷ []) (ap (λ (now : SourceState). (step m now t).1) facts.state ∙ f)
 
   -- the source has ended, and so does the machine
   pub ends : (next : SourceState) (code : ℕ) → step m s t ≡ (next, EndsProgram code) → next.world ≡ s.world
       → Holds m h arguments (retired true t (stopped (machine_of s threads turns) (End code)))
   ends next code e world = Over code refl
-      (subst (λ (answers : List Step). AllWent answers) (sym answers-are) (ended-more (source m arguments turns).answers code facts.went facts.unended))
+      (subst (λ (answers : List Step). AllWent answers) (sym answers-are)
+      (ended-more (source m arguments turns).answers code facts.went facts.unended))
       (ap code_of answers-are ∙ code-ended (source m arguments turns).answers code facts.went facts.unended)
-      (sym (ap (λ (now : SourceState). now.world.outputs) (state-more m arguments turns t ∙ ap (λ (now : SourceState). (step m now t).0) facts.state ∙ ap (λ (p : SourceState × Step). p.0) e)
+      (sym (ap (λ (now : SourceState). now.world.outputs)
+      (state-more m arguments turns t ∙ ap (λ (now : SourceState). (step m now t).0) facts.state ∙ ap (λ (p : SourceState × Step). p.0) e)
       ∙ ap (λ w. w.outputs) world))
     where
       answers-are : (source m arguments (turns ++ t ∷ [])).answers ≡ (source m arguments turns).answers ++ EndsProgram code ∷ []
-      answers-are = answers-more m arguments turns t ∙ ap (λ (last : Step). (source m arguments turns).answers ++ last ∷ []) (ap (λ (now : SourceState). (step m now t).1) facts.state ∙ ap (λ (p : SourceState × Step). p.1) e)
+      answers-are = answers-more m arguments turns t ∙ ap (λ (last : Step). (source m arguments turns).answers ++ last ∷ [])
+          (ap (λ (now : SourceState). (step m now t).1) facts.state ∙ ap (λ (p : SourceState × Step). p.1) e)
 
   -- the next step of a thread is undefined, on the turns so far and on all that follow
-  pub not-defined : (cause : Cause) (now : State) (more : List ℕ) → (step m s t).1 ≡ Undefined cause → now.turns ≡ turns ++ more → Holds m h arguments now
+  pub not-defined : (cause : Cause) (now : State) (more : List ℕ) → (step m s t).1 ≡ Undefined cause → now.turns ≡ turns ++ more
+      → Holds m h arguments now
   not-defined cause now more e grown =
-      let here : IsUndefinedOn m arguments turns = undefined-now m arguments turns t cause facts.went (ap (λ (at : SourceState). (step m at t).1) facts.state ∙ e) in
+      let here : IsUndefinedOn m arguments turns = undefined-now m arguments turns t cause facts.went
+      (ap (λ (at : SourceState). (step m at t).1) facts.state ∙ e) in
       NotDefined (subst (λ (list : List ℕ). IsUndefinedOn m arguments list) (sym grown) (undefined-more m arguments turns more here))
 
   module _ (a : SourceStack) (b : CallStack) (sides : Sides) (unhurt : IsHurt sides → ⊥) (stack : IsStack m h sides a b)
@@ -92,7 +105,8 @@ module _ (m : ModuleParts) (h : HardParts) (arguments : List ℕ) (s : SourceSta
       went = facts.went;
       unended = facts.unended;
       going = facts.going;
-      each = hard-moved m h s.threads threads facts.each t (source_threads.Running a) (source_threads.Running a) (Running b) (Running (record b { frame = frame })) at hard_at
+      each = hard-moved m h s.threads threads facts.each t (source_threads.Running a) (source_threads.Running a) (Running b)
+          (Running (record b { frame = frame })) at hard_at
           (record { sides = sides; unhurt = unhurt; stands = record { mark = stack.mark; frame = is; callers = stack.callers } });
     })
 

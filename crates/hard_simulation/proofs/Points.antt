@@ -42,22 +42,27 @@ abbrev pub hard_code : HardParts → Frame → List HInst
 hard_code h frame = drop frame.index (list_at (blocks_at h frame.function) frame.block)
 
 -- where a frame stands that has this left, and these registers
-pub data Stands (m : ModuleParts) (sides : Sides) (left : List Inst) (registers : List (Option ℕ)) (code : List HInst) (masters shadows : List (Option ℕ)) : Type 0 where
+pub data Stands (m : ModuleParts) (sides : Sides) (left : List Inst) (registers : List (Option ℕ)) (code : List HInst)
+    (masters shadows : List (Option ℕ)) : Type 0 where
   -- nothing is left in the source, whose next step is undefined
   Nowhere : left ≡ [] → Stands m sides left registers code masters shadows
   -- before an image
-  At : Image left code → On sides M (Agree masters registers) → On sides S (Agree shadows registers) → Stands m sides left registers code masters shadows
+  At : Image left code → On sides M (Agree masters registers) → On sides S (Agree shadows registers)
+      → Stands m sides left registers code masters shadows
   -- between `cut` and `begin`
   Marked : (rest : List HInst) → code ≡ Begin ∷ rest → Image left rest → On sides M (Agree masters registers) → On sides S (Agree shadows registers)
       → Stands m sides left registers code masters shadows
   -- before the checks that are left of an instruction
   Checking : (inst : Inst) (behind : List Inst) (ticks : List ℕ) (done operands : List (Ty × Val)) (rest : List HInst) → left ≡ inst ∷ behind
-      → code ≡ ticks_onto ticks (checks_onto operands (flow inst ++ rest)) → checked inst ≡ done ++ operands → Image behind rest → AreSame masters registers done
+      → code ≡ ticks_onto ticks (checks_onto operands (flow inst ++ rest)) → checked inst ≡ done ++ operands → Image behind rest
+      → AreSame masters registers done
       → On sides M (Agree masters registers) → On sides S (Agree shadows registers) → Stands m sides left registers code masters shadows
   -- between master and shadow
-  Doubling : (inst : Inst) (behind : List Inst) (rest : List HInst) (dst : Loc) (word : ℕ) → left ≡ inst ∷ behind → code ≡ Do S (unflagged inst) true ∷ rest
+  Doubling : (inst : Inst) (behind : List Inst) (rest : List HInst) (dst : Loc) (word : ℕ) → left ≡ inst ∷ behind
+      → code ≡ Do S (unflagged inst) true ∷ rest
       → Image behind rest → is_doubled inst ≡ true → destination inst ≡ Some dst → action_of (layout_of m) (callees_of m) registers inst ≡ Assign word
-      → On sides M (Agree masters (put registers dst.0 word)) → On sides S (Agree shadows registers) → Stands m sides left registers code masters shadows
+      → On sides M (Agree masters (put registers dst.0 word)) → On sides S (Agree shadows registers)
+      → Stands m sides left registers code masters shadows
   -- before copies
   Copying : (regs : List (Ty × Loc)) (rest : List HInst) → code ≡ copies_onto regs rest → Image left rest → AreFresh regs masters registers
       → On sides M (Agree masters registers) → On sides S (AgreeBut regs shadows registers) → Stands m sides left registers code masters shadows

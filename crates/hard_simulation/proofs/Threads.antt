@@ -45,7 +45,8 @@ module _ (m : ModuleParts) (h : HardParts) (xs : List SourceThread) (ys : List T
   pub hard-there : (t : ℕ) (a : SourceThread) → slice_get xs t ≡ Some a → (b : Thread) × (slice_get ys t ≡ Some b) × IsThread m h a b
   hard-there t a e = by_hard (slice_get ys t) refl (subst (λ (o : Option SourceThread). AreThreadsAt m h o (slice_get ys t)) e (all.each t))
     where
-      by_hard : (o : Option Thread) → slice_get ys t ≡ o → AreThreadsAt m h (Some a) (slice_get ys t) → (b : Thread) × (slice_get ys t ≡ Some b) × IsThread m h a b
+      by_hard : (o : Option Thread) → slice_get ys t ≡ o → AreThreadsAt m h (Some a) (slice_get ys t)
+          → (b : Thread) × (slice_get ys t ≡ Some b) × IsThread m h a b
       by_hard None f k = absurd (subst (λ (o : Option Thread). AreThreadsAt m h (Some a) o) f k)
       by_hard (Some b) f k = (b, f, subst (λ (o : Option Thread). AreThreadsAt m h (Some a) o) f k)
 
