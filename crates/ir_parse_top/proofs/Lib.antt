@@ -13,4 +13,5 @@ mod TreeLines
 mod Numerals
 pub mod TextLaws
 mod CountLaws
-mod NumeralLaws
+pub mod NumeralLaws
+pub mod BlockLaws
