@@ -1,4 +1,5 @@
--- What is known of each function of an accepted module: its parameters are few, and its parameters and instructions fit by their types.
+-- What is known of each function of an accepted module: its parameters are few, and its parameters and instructions fit by their types;
+-- and that no function that it may call gives a result with parts.
 use Rattle.std.proofs.Common.{ℕ, zero, suc, ◌≡◌, ◌+◌, ◌≤◌, nat_lt, Bool, true, false, not, List, [], ◌∷◌, ◌++◌, length, map, find, Option, Some, None, slice_get, refl, ap, ◌∙◌, subst, arith}
 use Rattle.std.specs.Prelude.{if◌then◌else◌}
 use Rattle.std.specs.List.{AllByRecursion, list_all}
@@ -7,7 +8,10 @@ use Rattle.std.proofs.lemmas.Bool.Decides.{nat_tests}
 use Rattle.ir_core.proofs.Lengths.{both_true}
 use Rattle.ir_core.specs.declared.types.TypeId.{TypeId}
 use Rattle.ir_core.specs.declared.types.Ty.{Ty}
+use Rattle.ir_core.specs.declared.types.Sym.{Sym}
 use Rattle.ir_core.specs.declared.types.Loc.{Loc}
+use Rattle.ir_core.specs.declared.values.GlobalVar.{GlobalVar}
+use Rattle.ir_core.specs.declared.values.Declare.{Declare}
 use Rattle.ir_core.specs.declared.instruction.Inst.{Inst}
 use Rattle.ir_core.specs.declared.instruction.Block.{Block}
 use Rattle.ir_core.specs.Module.{ModuleParts, FuncParts}
@@ -18,12 +22,13 @@ use Rattle.ir_layout.specs.WrittenTypes.{types_in_head}
 use Rattle.ir_lines.specs.Lines.{Line, TypeLine, GlobalLine, DeclareLine, HeadLine, BlockLine, InstLine, site_of, inst_lines, block_lines, blocks_lines, func_lines, funcs_lines, code_lines, lines_of, first_break, told_at, first_told}
 use Rattle.ir_types.specs.Meanings.{meanings}
 use Rattle.ir_types.specs.Types.{inst_fits, has_no_parts, types_keep}
-use Rattle.ir_calls.specs.Calls.{calls_keep, inst_keeps}
+use Rattle.ir_calls.specs.Calls.{Standing, Variable, Declared, Defined, of_global, of_declare, of_func, standings, calls_keep, inst_keeps}
 use Rattle.ir_check.specs.declared.fault.Kind.{Kind}
 use Rattle.ir_check.specs.declared.fault.Kind.TheVariants.{BadTerminator, BadCall, TypeMismatch}
 use Rattle.ir_check.specs.CodeLimits.{over, limit_in, broken_limit}
 use Rattle.ir_check.specs.Blocks.{terminators_keep}
 use Rattle.ir_check.specs.Faults.{IsAccepted, rule_fault, duplicate_fault, unknown_fault, limit_fault, shape_fault, code_fault}
+use Rattle.hard_grammar.proofs.Ordinary.{all_append}
 
 neither : {A : Type 0} (x y : Option A) → option_or x y ≡ None → (x ≡ None) × (y ≡ None)
 neither None y e = (refl, e)
@@ -100,6 +105,17 @@ func_keeps keeps start (g ∷ funcs) zero f e at =
     (start, subst (λ (x : FuncParts). find (λ line. not (keeps line)) (func_lines start x) ≡ None) same (kept_split (λ line. not (keeps line)) (func_lines start g) (funcs_lines (start + 1) funcs) e).0)
 func_keeps keeps start (g ∷ funcs) (suc n) f e at = func_keeps keeps (start + 1) funcs n f (kept_split (λ line. not (keeps line)) (func_lines start g) (funcs_lines (start + 1) funcs) e).1 at
 
+-- ---- callees
+
+-- a function's result has no parts
+abbrev pub IsPlain : Standing → Type 0
+IsPlain Variable = Unit {0}
+IsPlain (Declared signature) = has_no_parts signature.result ≡ true
+IsPlain (Defined signature) = has_no_parts signature.result ≡ true
+
+abbrev pub IsPlainStanding : Sym × Standing → Type 0
+IsPlainStanding named = IsPlain named.1
+
 -- ---- functions of an accepted module
 
 pub record FuncFits (m : ModuleParts) (f : FuncParts) : Type 0 where
@@ -122,18 +138,19 @@ module _ (m : ModuleParts) (accepted : IsAccepted m) where
       let second = neither (rule_fault m BadCall (calls_keep m)) (option_or (rule_fault m TypeMismatch (types_keep m)) (shape_fault m)) first.1 in
       (second.0, (neither (rule_fault m TypeMismatch (types_keep m)) (shape_fault m) second.1).0)
 
-  in_code : (kind : Kind) (keeps : Line → Bool) → rule_fault m kind keeps ≡ None → find (λ line. not (keeps line)) (funcs_lines 0 m.funcs) ≡ None
+  in_code : (kind : Kind) (keeps : Line → Bool) → rule_fault m kind keeps ≡ None
+      → (find (λ line. not (keeps line)) (map DeclareLine m.declares) ≡ None) × (find (λ line. not (keeps line)) (funcs_lines 0 m.funcs) ≡ None)
   in_code kind keeps e =
       let p : Line → Bool = λ line. not (keeps line) in
       let none : find p (lines_of m) ≡ None = no_image site_of (find p (lines_of m)) (no_image _ (first_break keeps (lines_of m)) e) in
       let code = (kept_split p (map TypeLine m.types ++ map GlobalLine m.globals) (code_lines m) none).1 in
-      (kept_split p (map DeclareLine m.declares) (funcs_lines 0 m.funcs) code).1
+      kept_split p (map DeclareLine m.declares) (funcs_lines 0 m.funcs) code
 
   pub func_fits : (n : ℕ) (f : FuncParts) → slice_get m.funcs n ≡ Some f → FuncFits m f
   func_fits n f at =
       let told = (told_split (limit_in m.types) (map DeclareLine m.declares) (funcs_lines 0 m.funcs) (no_image _ (first_told (limit_in m.types) (code_lines m)) (neither (first_limit m) _ limits_and_code.0).1)).1 in
-      let typed = func_keeps (types_keep m) 0 m.funcs n f (in_code TypeMismatch (types_keep m) rules.1) at in
-      let called = func_keeps (calls_keep m) 0 m.funcs n f (in_code BadCall (calls_keep m) rules.0) at in
+      let typed = func_keeps (types_keep m) 0 m.funcs n f (in_code TypeMismatch (types_keep m) rules.1).1 at in
+      let called = func_keeps (calls_keep m) 0 m.funcs n f (in_code BadCall (calls_keep m) rules.0).1 at in
       let head = kept_first (types_keep m) (HeadLine typed.0 f) (blocks_lines typed.0 f 0 f.blocks) typed.1 in
       let calling = kept_first (calls_keep m) (HeadLine called.0 f) (blocks_lines called.0 f 0 f.blocks) called.1 in
       record {
@@ -142,3 +159,28 @@ module _ (m : ModuleParts) (accepted : IsAccepted m) where
         fits = all_blocks_keep (types_keep m) f typed.0 (λ (inst : Inst). inst_fits m.types (meanings f) f.ret inst ≡ true) (λ b i inst e. e) 0 f.blocks head.1;
         calls = all_blocks_keep (calls_keep m) f called.0 (λ (inst : Inst). inst_keeps m inst ≡ true) (λ b i inst e. e) 0 f.blocks calling.1;
       }
+
+  -- ---- what may be called
+
+  declares_plain : (declares : List Declare) → find (λ line. not (types_keep m line)) (map DeclareLine declares) ≡ None → AllByRecursion IsPlainStanding (map of_declare declares)
+  declares_plain [] e = tt
+  declares_plain (declare ∷ declares) e =
+      let h = kept_first (types_keep m) (DeclareLine declare) (map DeclareLine declares) e in
+      ((both_true (has_no_parts declare.ret) (list_all has_no_parts declare.params) h.0).0, declares_plain declares h.1)
+
+  funcs_plain : (n : ℕ) (funcs : List FuncParts) → find (λ line. not (types_keep m line)) (funcs_lines n funcs) ≡ None → AllByRecursion IsPlainStanding (map of_func funcs)
+  funcs_plain n [] e = tt
+  funcs_plain n (f ∷ funcs) e =
+      let h = kept_split (λ line. not (types_keep m line)) (func_lines n f) (funcs_lines (n + 1) funcs) e in
+      let head = kept_first (types_keep m) (HeadLine n f) (blocks_lines n f 0 f.blocks) h.0 in
+      ((both_true (has_no_parts f.ret) (list_all has_no_parts (map (λ (param : Ty × Loc). param.0) f.params)) head.0).0, funcs_plain (n + 1) funcs h.1)
+
+  globals_plain : (globals : List GlobalVar) → AllByRecursion IsPlainStanding (map of_global globals)
+  globals_plain [] = tt
+  globals_plain (global ∷ globals) = (tt, globals_plain globals)
+
+  pub callees_plain : AllByRecursion IsPlainStanding (standings m)
+  callees_plain =
+      let typed = in_code TypeMismatch (types_keep m) rules.1 in
+      all_append IsPlainStanding (map of_global m.globals ++ map of_declare m.declares) (map of_func m.funcs)
+      (all_append IsPlainStanding (map of_global m.globals) (map of_declare m.declares) (globals_plain m.globals) (declares_plain m.declares typed.0)) (funcs_plain 0 m.funcs typed.1)

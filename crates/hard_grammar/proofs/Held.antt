@@ -1,9 +1,7 @@
 -- The registers that an instruction checks or copies have types of one word or of what a `cmpxchg` gives, where the names of its
 -- function stand for such.
-use Rattle.std.proofs.Common.{ℕ, ◌≡◌, Bool, true, false, ◌&&◌, List, [], ◌∷◌, map, find, Option, Some, None, refl, sym, ap, ◌∙◌, subst}
-use Rattle.std.specs.Prelude.{nat_eq, if◌then◌else◌}
+use Rattle.std.proofs.Common.{ℕ, ◌≡◌, Bool, true, false, ◌&&◌, List, [], ◌∷◌, map, Option, Some, None, refl, sym, ap, ◌∙◌, subst}
 use Rattle.std.specs.List.{AllByRecursion, list_all, flat_map, filter_map, cons_option}
-use Rattle.std.specs.Option.{option_map}
 use Rattle.ir_core.proofs.Lengths.{both_true}
 use Rattle.ir_core.specs.declared.types.Loc.{Loc}
 use Rattle.ir_core.specs.declared.types.TypeId.{TypeId}
@@ -13,7 +11,7 @@ use Rattle.ir_core.specs.declared.types.Ty.{Ty}
 use Rattle.ir_core.specs.declared.types.Ty as opened
 use Rattle.ir_core.specs.declared.types.Ty.TheVariants as types
 use Rattle.ir_core.specs.declared.types.Ty.TheOpen.{Ty-F}
-use Rattle.ir_core.specs.declared.types.Ty.TheViews.{roll-Ty, out-Ty, roll-out-Ty}
+use Rattle.ir_core.specs.declared.types.Ty.TheViews.{roll-Ty, out-Ty}
 use Rattle.ir_core.specs.declared.types.Ty.TheFolds.{fold-roll-Ty}
 use Rattle.ir_core.specs.declared.values.Val.{Val}
 use Rattle.ir_core.specs.declared.values.Val.TheVariants as values
@@ -22,13 +20,14 @@ use Rattle.ir_core.specs.declared.instruction.Inst.TheVariants as insts
 use Rattle.ir_core.specs.declared.instruction.Block.{Block}
 use Rattle.ir_core.specs.Module.{ModuleParts, FuncParts}
 use Rattle.ir_lines.specs.SameTypes.{same_ty, same_layer, same_width}
+use Rattle.ir_types.specs.Firsts.{first_of}
 use Rattle.ir_types.specs.Meanings.{Meaning, Label, Register, Pair, result_of, param_meaning, block_meanings, meanings}
 use Rattle.ir_types.specs.Types.{is_register_of, operand_fits, typed_operands, pair_type, names_label, labels_in, form_fits, inst_fits}
 use Rattle.hard_ir.specs.Image.{checked, single_result}
-use Rattle.hard_grammar.specs.Words.{OneWord, AnInt, APtr, IsWord, IsWordResult, HasWordResult, HasWords}
+use Rattle.hard_grammar.proofs.Words.{OneWord, AnInt, APtr, IsWord, IsWordResult, HasWordResult, HaveWordResults, AreWordParams, HasWords, whole, word_by}
 use Rattle.hard_grammar.proofs.OwnLines.{IsHeld, AWord, APair}
 use Rattle.hard_grammar.proofs.Columns.{HeldOperand, HeldResult, HeldParam, HeldInst, HeldBlock, HeldFunc}
-use Rattle.hard_grammar.proofs.Ordinary.{all_append}
+use Rattle.hard_grammar.proofs.Ordinary.{all_append, first_among}
 use Rattle.hard_grammar.proofs.Accepted.{FuncFits}
 
 -- ---- types that are the same
@@ -64,22 +63,9 @@ not_named APtr id = refl
 clash : {A : Type 0} (b c : Bool) → b ≡ true → b ≡ c → c ≡ false → A
 clash b c e f g = absurd (let h : true ≡ false = sym e ∙ f ∙ g in cc)
 
--- a type is what its layer makes
-whole : (ty : Ty) (layer : Ty-F Ty) → out-Ty ty ≡ layer → roll-Ty layer ≡ ty
-whole ty layer h = sym (ap roll-Ty h) ∙ roll-out-Ty ty
-
 -- what is the same as a type of one word is one
-same_word : {own : Ty} (one : OneWord own) (ty : Ty) → same_ty own ty ≡ true → OneWord ty
-unfolding opened.roll-Ty denote.Hole.Carrier.roll
-same_word {own} one ty e = by (out-Ty ty) refl
-  where
-    by : (layer : Ty-F Ty) → out-Ty ty ≡ layer → OneWord ty
-    by (Ty-F.Int v) h = subst OneWord (whole ty (Ty-F.Int v) h) (AnInt v)
-    by Ty-F.Ptr h = subst OneWord (whole ty Ty-F.Ptr h) APtr
-    by Ty-F.Void h = clash _ _ e (by_layer one ty ∙ ap (same_layer (layer_of one)) h) (not_void one)
-    by (Ty-F.Array n element) h = clash _ _ e (by_layer one ty ∙ ap (same_layer (layer_of one)) h) (not_array one n element)
-    by (Ty-F.Struct parts) h = clash _ _ e (by_layer one ty ∙ ap (same_layer (layer_of one)) h) (not_struct one parts)
-    by (Ty-F.Named id) h = clash _ _ e (by_layer one ty ∙ ap (same_layer (layer_of one)) h) (not_named one id)
+pub same_word : {own : Ty} (one : OneWord own) (ty : Ty) → same_ty own ty ≡ true → OneWord ty
+same_word one ty e = word_by (same_layer (layer_of one)) (not_void one) (not_array one) (not_struct one) (not_named one) ty (sym (by_layer one ty) ∙ e)
 
 w1_same : (ty : Ty) → same_ty (types.Int W1) ty ≡ true → ty ≡ types.Int W1
 unfolding opened.roll-Ty denote.Hole.Carrier.roll
@@ -153,20 +139,11 @@ operand_held named names (ty, values.Int n) good e = tt
 operand_held named names (ty, values.Null) good e = tt
 operand_held named names (ty, values.Global sym) good e = tt
 operand_held named names (ty, values.Gep gep) good e = tt
-operand_held named names (ty, values.Reg at) good e = by (find (λ entry. nat_eq entry.0.0 at.0) names) refl e
+operand_held named names (ty, values.Reg at) good e = by (first_of names at) refl e
   where
-    first : (names : List (Loc × Meaning)) (entry : Loc × Meaning) → AreWords names → find (λ entry. nat_eq entry.0.0 at.0) names ≡ Some entry → IsWord entry.1
-    first [] entry good f = absurd cc
-    first (other ∷ names) entry good f = test (nat_eq other.0.0 at.0) f (first names entry good.1)
-      where
-        test : (t : Bool) → ◌≡◌ {A = Option (Loc × Meaning)} (if t then Some other else find (λ entry. nat_eq entry.0.0 at.0) names) (Some entry)
-            → (find (λ entry. nat_eq entry.0.0 at.0) names ≡ Some entry → IsWord entry.1) → IsWord entry.1
-        test true g rest = let same : other ≡ entry = cc in subst (λ (x : Loc × Meaning). IsWord x.1) same good.0
-        test false g rest = rest g
-
-    by : (o : Option (Loc × Meaning)) → find (λ entry. nat_eq entry.0.0 at.0) names ≡ o → is_register_of ty (option_map (λ entry. entry.1) o) ≡ true → IsHeld ty
+    by : (o : Option Meaning) → first_of names at ≡ o → is_register_of ty o ≡ true → IsHeld ty
     by None h f = absurd cc
-    by (Some entry) h f = register_held ty entry.1 (first names entry good h) f
+    by (Some meaning) h f = register_held ty meaning (first_among IsWord names at meaning good h) f
 
 -- where the operands of an instruction fit, those that are checked are of such types
 pub operands_held : (named : List (TypeId × Ty)) (names : List (Loc × Meaning)) (operands : List (Ty × Val)) → AreWords names → list_all (operand_fits named names) operands ≡ true → AllByRecursion HeldOperand operands
@@ -185,15 +162,15 @@ filter_words (inst ∷ body) all = by (result_of inst) all.0 (filter_words body 
     by None good rest = rest
     by (Some result) good rest = (good, rest)
 
-blocks_words : (blocks : List Block) → AllByRecursion (λ (block : Block). AllByRecursion HasWordResult block.insts) blocks → AreWords (flat_map block_meanings blocks)
+blocks_words : (blocks : List Block) → HaveWordResults blocks → AreWords (flat_map block_meanings blocks)
 blocks_words [] all = tt
 blocks_words (block ∷ blocks) all = all_append (λ entry. IsWord entry.1) (block_meanings block) (flat_map block_meanings blocks) (tt, filter_words block.insts all.0) (blocks_words blocks all.1)
 
-params_words : (params : List (Ty × Loc)) → AllByRecursion (λ (param : Ty × Loc). OneWord param.0) params → AreWords (map param_meaning params)
+params_words : (params : List (Ty × Loc)) → AreWordParams params → AreWords (map param_meaning params)
 params_words [] all = tt
 params_words (param ∷ params) all = (all.0, params_words params all.1)
 
-params_held : (params : List (Ty × Loc)) → AllByRecursion (λ (param : Ty × Loc). OneWord param.0) params → AllByRecursion HeldParam params
+params_held : (params : List (Ty × Loc)) → AreWordParams params → AllByRecursion HeldParam params
 params_held [] all = tt
 params_held (param ∷ params) all = (AWord param.0 all.0, params_held params all.1)
 
@@ -256,9 +233,9 @@ module _ (m : ModuleParts) (f : FuncParts) (words : HasWords f) where
       (record { operands = checked_held inst (operands_held m.types (meanings f) (typed_operands inst) all_words v.0); result = result_held inst good.0 }, insts_held body fits.1 good.1)
 
   blocks_held : (blocks : List Block) → AllByRecursion (λ (block : Block). AllByRecursion (λ (inst : Inst). inst_fits m.types (meanings f) f.ret inst ≡ true) block.insts) blocks
-      → AllByRecursion (λ (block : Block). AllByRecursion HasWordResult block.insts) blocks → AllByRecursion HeldBlock blocks
+      → HaveWordResults blocks → AllByRecursion HeldBlock blocks
   blocks_held [] fits good = tt
   blocks_held (block ∷ blocks) fits good = (insts_held block.insts fits.0 good.0, blocks_held blocks fits.1 good.1)
 
-  pub func_held : FuncFits m f → HeldFunc f
-  func_held fits = record { params = params_held f.params words.params; blocks = blocks_held f.blocks fits.fits words.results }
+  pub words_held : FuncFits m f → HeldFunc f
+  words_held fits = record { params = params_held f.params words.params; blocks = blocks_held f.blocks fits.fits words.results }

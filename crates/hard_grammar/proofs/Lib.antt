@@ -1,12 +1,14 @@
+mod Words
 mod Ordinary
 mod Unflagged
 mod LineTokens
+mod Parameters
 mod TextLines
 mod OwnLines
-mod NumeralLaws
 mod NumberedLines
 mod Columns
 pub mod Modules
 mod Accepted
 mod WrittenTypes
 mod Held
+mod Results

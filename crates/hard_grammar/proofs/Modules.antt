@@ -1,8 +1,9 @@
--- The hardened modules of an accepted module that a text stands for have lines, where the parameters and results of its functions have
--- types of one word or hold what a `cmpxchg` gives.
+-- The hardened modules of an accepted module that a text stands for have lines.
 use Rattle.std.proofs.Common.{ℕ, zero, suc, ◌≡◌, ◌+◌, ◌<◌, ◌≤◌, List, [], ◌∷◌, length, map, fold, max, Some, slice_get, refl, sym, ap, ◌∙◌, subst, arith}
 use Rattle.std.specs.List.{AllByRecursion}
 use Rattle.std.proofs.lemmas.List.{length-map}
+use Rattle.ir_core.specs.declared.types.Loc.{Loc}
+use Rattle.ir_core.specs.declared.types.Ty.{Ty}
 use Rattle.ir_core.specs.declared.instruction.Block.{Block}
 use Rattle.ir_core.specs.Module.{ModuleParts, FuncParts, empty_module}
 use Rattle.ir_numbering.specs.Renaming.{renamed_block, renamed_param}
@@ -10,6 +11,7 @@ use Rattle.ir_numbering.specs.Places.{places_of_func}
 use Rattle.ir_numbering.specs.Numbers.{with_names, locals_at, renaming_of, numbered_func, module_with, places_of_module}
 use Rattle.ir_parse_top.specs.Sheet.{numerals, with_numerals}
 use Rattle.ir_parse_top.specs.Text.{Text, IsOfText, numerals_for}
+use Rattle.ir_parse_top.proofs.BlockLaws.{functions_have_blocks}
 use Rattle.ir_check.specs.Faults.{IsAccepted}
 use Rattle.hard_ir.specs.Image.{Table, flow_table, check_table}
 use Rattle.hard_ir.specs.Hardened.{head_of, hard_func, hardened_by}
@@ -17,9 +19,11 @@ use Rattle.hard_grammar.specs.Standing.{Tables, tables_of, HasFuncLines, HasLine
 use Rattle.hard_grammar.proofs.Ordinary.{all_map}
 use Rattle.hard_grammar.proofs.TextLines.{IsToldBlock, IsToldFunc, tree_told}
 use Rattle.hard_grammar.proofs.NumberedLines.{BlockFacts, FuncFacts, block_facts, param_facts}
-use Rattle.hard_grammar.proofs.Accepted.{func_fits}
-use Rattle.hard_grammar.specs.Words.{HaveWords}
-use Rattle.hard_grammar.proofs.Held.{func_held}
+use Rattle.hard_grammar.proofs.Accepted.{func_fits, callees_plain}
+use Rattle.hard_grammar.proofs.Words.{NotVoid}
+use Rattle.hard_grammar.proofs.Parameters.{not_void_renamed}
+use Rattle.hard_grammar.proofs.Held.{words_held}
+use Rattle.hard_grammar.proofs.Results.{have_words}
 use Rattle.hard_grammar.proofs.Columns.{HeldFunc, IsLined, flow_lined, check_lined, func_lines}
 
 -- ---- elements of lists
@@ -51,28 +55,27 @@ enough n (suc k) f (g ∷ funcs) e = enough (max n (length g.params + 1)) k f fu
 
 -- ---- functions of a text
 
-blocks_none : (f : Block → Block) (blocks : List Block) → map f blocks ≡ [] → blocks ≡ []
-blocks_none f [] e = refl
-blocks_none f (block ∷ blocks) e = absurd cc
+some_blocks : (blocks : List Block) → 0 < length blocks → blocks ≡ [] → ⊥
+some_blocks [] lt e = omega (arith, lt)
+some_blocks (block ∷ blocks) lt e = cc
 
 -- a function by the numbers of its names
 numbered_facts : (text : List ℕ) (count : ℕ) (table : ModuleParts) (f : FuncParts) → length f.params < count → length f.params < 10000000 → IsToldFunc text (numerals 0 count) f
-    → FuncFacts (tables_of table (numbered_func (with_numerals count text) table f)) (numbered_func (with_numerals count text) table f)
-numbered_facts text count table f within small told =
+    → 0 < length (numbered_func (with_numerals count text) table f).blocks → FuncFacts (tables_of table (numbered_func (with_numerals count text) table f)) (numbered_func (with_numerals count text) table f)
+numbered_facts text count table f within small told some =
     let whole = with_numerals count text in
     let named : FuncParts = record f { names = with_names [] (locals_at whole (places_of_func f)) } in
+    let names = renaming_of whole table named in
     record {
-      entry = λ e. told.entry (blocks_none (renamed_block (renaming_of whole table named)) f.blocks e);
+      entry = some_blocks (map (renamed_block names) f.blocks) some;
       params = param_facts text count table named f.params;
-      each = all_map (IsToldBlock text (numerals 0 count) (length f.params)) (BlockFacts (tables_of table named)) (renamed_block (renaming_of whole table named)) (block_facts text count table named (length f.params) within small) f.blocks told.each;
+      values = all_map (λ (param : Ty × Loc). NotVoid param.0) (λ (param : Ty × Loc). NotVoid param.0) (renamed_param names) (λ param. not_void_renamed names param.0) f.params told.params;
+      each = all_map (IsToldBlock text (numerals 0 count) (length f.params)) (BlockFacts (tables_of table named)) (renamed_block names) (block_facts text count table named (length f.params) within small) f.blocks told.each;
     }
 
 -- each function has fewer parameters than this, for which eight bytes of digits are enough
 abbrev pub FewParams : ModuleParts → Type 0
 FewParams m = (n : ℕ) (f : FuncParts) → slice_get m.funcs n ≡ Some f → length f.params < 10000000
-
-abbrev pub AreHeld : ModuleParts → Type 0
-AreHeld m = (n : ℕ) (f : FuncParts) → slice_get m.funcs n ≡ Some f → HeldFunc f
 
 text_facts : (text : List ℕ) (m : ModuleParts) → Text text m → FewParams m → (n : ℕ) (f : FuncParts) → slice_get m.funcs n ≡ Some f → FuncFacts (tables_of m f) f
 text_facts text m t few n f at =
@@ -85,7 +88,8 @@ text_facts text m t few n f at =
     let size : length f.params ≡ length from.0.params = ap (λ (x : FuncParts). length x.params) (sym from.2) ∙ length-map from.0.params (renamed_param (renaming_of whole table (record from.0 { names = with_names [] (locals_at whole (places_of_func from.0)) }))) in
     let below = few n f at in
     let more = enough 0 n from.0 t.tree.funcs from.1 in
-    let facts = numbered_facts text count table from.0 (omega (arith, more)) (omega (arith, size, below)) told in
+    let some = subst (λ (x : FuncParts). 0 < length x.blocks) (sym from.2) (functions_have_blocks text m t n f at) in
+    let facts = numbered_facts text count table from.0 (omega (arith, more)) (omega (arith, size, below)) told some in
     subst (λ (x : ModuleParts). FuncFacts (tables_of x f) f) (sym t.is) (subst (λ (x : FuncParts). FuncFacts (tables_of table x) x) from.2 facts)
 
 -- ---- hardened modules
@@ -93,20 +97,20 @@ text_facts text m t few n f at =
 few_params : (m : ModuleParts) → IsAccepted m → FewParams m
 few_params m accepted n f at = let few = (func_fits m accepted n f at).few in omega (arith, few)
 
-lines_of_text : (table : Table) → ((tables : Tables) → IsLined tables table) → (m : ModuleParts) → IsOfText m → FewParams m → AreHeld m → HasLines (hardened_by table m)
-lines_of_text table lined m t few held n head blocks at there =
+func_held : (m : ModuleParts) → IsAccepted m → IsOfText m → (n : ℕ) (f : FuncParts) → slice_get m.funcs n ≡ Some f → FuncFacts (tables_of m f) f → HeldFunc f
+func_held m accepted t n f at facts = let fits = func_fits m accepted n f at in words_held m f (have_words m f (tables_of m f) (callees_plain m accepted) fits facts) fits
+
+lines_of_text : (table : Table) → ((tables : Tables) → IsLined tables table) → (m : ModuleParts) → IsAccepted m → IsOfText m → HasLines (hardened_by table m)
+lines_of_text table lined m accepted t n head blocks at there =
     let f = map_at head_of m.funcs n head at in
     let g = map_at (hard_func table) m.funcs n blocks there in
     let same : f.0 ≡ g.0 = let e = f.1 in let h = g.1 in cc in
-    let facts = text_facts t.text m t.stands few n f.0 f.1 in
-    let lines = func_lines (tables_of m f.0) table (lined (tables_of m f.0)) f.0 facts (held n f.0 f.1) in
+    let facts = text_facts t.text m t.stands (few_params m accepted) n f.0 f.1 in
+    let lines = func_lines (tables_of m f.0) table (lined (tables_of m f.0)) f.0 facts (func_held m accepted t n f.0 f.1 facts) in
     subst (HasFuncLines (tables_of m head)) (ap (hard_func table) same ∙ g.2) (subst (λ (x : FuncParts). HasFuncLines (tables_of m x) (hard_func table f.0)) f.2 lines)
 
-are_held : (m : ModuleParts) → IsAccepted m → HaveWords m → AreHeld m
-are_held m accepted words n f at = func_held m f (words n f at) (func_fits m accepted n f at)
+pub flow_has_lines : (m : ModuleParts) → IsAccepted m → IsOfText m → HasLines (hardened_by flow_table m)
+flow_has_lines = lines_of_text flow_table flow_lined
 
-pub flow_has_lines : (m : ModuleParts) → IsAccepted m → IsOfText m → HaveWords m → HasLines (hardened_by flow_table m)
-flow_has_lines m accepted t words = lines_of_text flow_table flow_lined m t (few_params m accepted) (are_held m accepted words)
-
-pub check_has_lines : (m : ModuleParts) → IsAccepted m → IsOfText m → HaveWords m → HasLines (hardened_by check_table m)
-check_has_lines m accepted t words = lines_of_text check_table check_lined m t (few_params m accepted) (are_held m accepted words)
+pub check_has_lines : (m : ModuleParts) → IsAccepted m → IsOfText m → HasLines (hardened_by check_table m)
+check_has_lines = lines_of_text check_table check_lined

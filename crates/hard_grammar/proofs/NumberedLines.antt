@@ -23,11 +23,12 @@ use Rattle.ir_grammar.specs.Tokens.{token_of, tokens_of}
 use Rattle.ir_numbering.specs.Renaming.{Renaming, renamed_loc, renamed_val, renamed_inst, renamed_args, renamed_block, renamed_param}
 use Rattle.ir_numbering.specs.Numbers.{renaming_of}
 use Rattle.ir_parse_top.specs.Sheet.{numerals, with_numerals, numeral_at}
-use Rattle.hard_grammar.proofs.NumeralLaws.{numerals_read}
+use Rattle.ir_parse_top.proofs.NumeralLaws.{numerals_read}
 use Rattle.hard_ir.specs.Image.{checked, single_result}
 use Rattle.hard_grammar.specs.Standing.{Tables, tables_of, HasNumbers, HasKind, HasLabelLine}
 use Rattle.hard_grammar.proofs.Ordinary.{HasOrdinaryLine, all_map, named_bytes}
 use Rattle.hard_grammar.proofs.LineTokens.{IsSound, IsRead}
+use Rattle.hard_grammar.proofs.Parameters.{AreValues}
 use Rattle.hard_grammar.proofs.TextLines.{IsTold, IsLabel, Written, Unwritten, IsToldBlock}
 use Rattle.hard_grammar.proofs.OwnLines.{IsNamed}
 use Rattle.hard_grammar.proofs.WrittenTypes.{WritesWord, writes_numbered}
@@ -62,6 +63,7 @@ pub record BlockFacts (tables : Tables) (block : Block) : Type 0 where
 pub record FuncFacts (tables : Tables) (f : FuncParts) : Type 0 where
   pub entry : f.blocks ≡ [] → ⊥
   pub params : AllByRecursion (NamedParam tables) f.params
+  pub values : AreValues f.params
   pub each : AllByRecursion (BlockFacts tables) f.blocks
 
 -- ---- names

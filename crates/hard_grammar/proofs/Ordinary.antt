@@ -1,9 +1,11 @@
 -- An instruction that has an ordinary line has a hardened one, on either side.
-use Rattle.std.proofs.Common.{ℕ, ◌≡◌, ◌+◌, ◌||◌, Bool, true, false, ◌&&◌, List, [], ◌∷◌, ◌++◌, map, drop, codes, refl, sym, ap, subst}
-use Rattle.std.specs.Prelude.{if◌then◌else◌}
+use Rattle.std.proofs.Common.{ℕ, ◌≡◌, ◌+◌, ◌||◌, Bool, true, false, ◌&&◌, List, [], ◌∷◌, ◌++◌, map, drop, codes, Option, Some, refl, sym, ap, subst}
+use Rattle.std.specs.Prelude.{nat_eq, if◌then◌else◌}
 use Rattle.std.specs.List.{AllByRecursion, list_all}
+use Rattle.std.specs.Option.{option_map}
 use Rattle.ir_core.specs.declared.text.TokKind.{TokKind}
 use Rattle.ir_core.specs.declared.text.TokKind.TheVariants.{Word, Local, At, Label, Num, Bytes, Str, Hash, Bang, Punct}
+use Rattle.ir_core.specs.declared.types.Loc.{Loc}
 use Rattle.ir_core.specs.declared.values.Side.{Side}
 use Rattle.ir_core.specs.declared.values.Side.TheVariants.{M, S}
 use Rattle.ir_core.specs.declared.instruction.Inst.{Inst}
@@ -13,6 +15,7 @@ use Rattle.ir_grammar.specs.Parts.{Tok, IsOptional}
 use Rattle.ir_grammar.specs.Tokens.{is_punct}
 use Rattle.ir_grammar.specs.Fitting.{IsInstruction}
 use Rattle.ir_numbering.specs.Renaming.{Renaming, renamed_inst}
+use Rattle.ir_types.specs.Firsts.{entry_of, first_of}
 use Rattle.hard_grammar.specs.Lines.{mark, registers_of, is_register_at, on_side, sided, asterisk}
 use Rattle.hard_grammar.specs.Standing.{Tables, AreNumbered, HasKind, AreTokens, HasInstLine}
 
@@ -35,6 +38,15 @@ all_append P (x ∷ xs) ys all more = (all.0, all_append P xs ys all.1 more)
 pub all_map : {A B : Type 0} (P : A → Type 0) (Q : B → Type 0) (f : A → B) → ((x : A) → P x → Q (f x)) → (xs : List A) → AllByRecursion P xs → AllByRecursion Q (map f xs)
 all_map P Q f step [] all = tt
 all_map P Q f step (x ∷ xs) all = (step x all.0, all_map P Q f step xs all.1)
+
+-- what stands first under a name
+pub first_among : {A : Type 0} (P : A → Type 0) (entries : List (Loc × A)) (at : Loc) (a : A) → AllByRecursion (λ entry. P entry.1) entries → first_of entries at ≡ Some a → P a
+first_among P [] at a all e = absurd cc
+first_among {A} P (entry ∷ entries) at a all e = by (nat_eq entry.0.0 at.0) e (first_among P entries at a all.1)
+  where
+    by : (t : Bool) → ◌≡◌ {A = Option A} (option_map (λ x. x.1) (if t then Some entry else entry_of entries at.0)) (Some a) → (first_of entries at ≡ Some a → P a) → P a
+    by true h rest = let same : entry.1 ≡ a = cc in subst P same all.0
+    by false h rest = rest h
 
 -- ---- names
 

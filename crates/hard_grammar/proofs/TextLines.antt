@@ -1,4 +1,5 @@
--- What the lines of a text have said: each block has a label, and each instruction a line whose names are read in the text.
+-- What the lines of a text have said: parameters have types of values, each block has a label, and each instruction a line whose names
+-- are read in the text.
 use Rattle.std.proofs.Common.{ℕ, suc, ◌≡◌, ◌+◌, ◌≤◌, inl, inr, Bool, true, false, eqb, List, [], ◌∷◌, ◌++◌, length, drop, Option, Some, None, refl, sym, ap, ◌∙◌, subst, arith, append_assoc}
 use Rattle.std.specs.Prelude.{codes, if◌then◌else◌}
 use Rattle.std.specs.List.{AllByRecursion, flat_map}
@@ -27,6 +28,7 @@ use Rattle.ir_grammar.specs.Fitting.{IsLine, IsInstruction}
 use Rattle.ir_parse_top.specs.Sheet.{Sheet, Outside, Inside, with_top, with_body, begun, new_block, named_params, counted, counted_params, numeral_at}
 use Rattle.ir_parse_top.specs.Text.{Line, placed, lines_placed, all_moved, pending_of, Says, Leads, Dropped, Blank, Said, Run}
 use Rattle.hard_grammar.proofs.Ordinary.{all_append}
+use Rattle.hard_grammar.proofs.Parameters.{AreValues, HasValues, line_written, named_written}
 use Rattle.hard_grammar.proofs.LineTokens.{IsSound, IsRead, Lies, all_sound}
 
 -- ---- where lines lie
@@ -103,12 +105,12 @@ module _ (text more : List ℕ) where
     pub insts : AllByRecursion IsTold block.insts
 
   pub record IsToldFunc (f : FuncParts) : Type 0 where
-    pub entry : f.blocks ≡ [] → ⊥
+    pub params : AreValues f.params
     pub each : AllByRecursion (IsToldBlock (length f.params)) f.blocks
 
   abbrev pub IsToldSheet : Sheet → Type 0
   IsToldSheet (Outside tree) = AllByRecursion IsToldFunc tree.funcs
-  IsToldSheet (Inside tree f entry pending) = AllByRecursion IsToldFunc tree.funcs × AllByRecursion (IsToldBlock (length f.params)) f.blocks × IsLabel (length f.params) entry × AreSound pending
+  IsToldSheet (Inside tree f entry pending) = AllByRecursion IsToldFunc tree.funcs × AllByRecursion (IsToldBlock (length f.params)) f.blocks × IsLabel (length f.params) entry × AreSound pending × AreValues f.params
 
   -- ---- lines outside functions
 
@@ -133,24 +135,20 @@ module _ (text more : List ℕ) where
   params_number n [] = refl
   params_number n (param ∷ params) = ap suc (params_number (n + counted text param.1) params)
 
-  told_top : (tree : ModuleParts) (line : TopLine) → AllByRecursion IsToldFunc tree.funcs → IsToldSheet (with_top text tree line)
-  told_top tree (tops.Type id ty) told = told
-  told_top tree (tops.Global global) told = told
-  told_top tree (tops.Declare declare) told = told
-  told_top tree (tops.Define head) told =
+  told_top : (tree : ModuleParts) (line : TopLine) → AllByRecursion IsToldFunc tree.funcs → HasValues line → IsToldSheet (with_top text tree line)
+  told_top tree (tops.Type id ty) told written = told
+  told_top tree (tops.Global global) told written = told
+  told_top tree (tops.Declare declare) told written = told
+  told_top tree (tops.Define head) told written =
       let le = count_params 0 head.params in
       let size = params_number 0 head.params in
-      (told, tt, Unwritten (counted_params text 0 head.params) (omega (arith, le, size)) refl, tt)
+      (told, tt, Unwritten (counted_params text 0 head.params) (omega (arith, le, size)) refl, tt, named_written text 0 head.params written)
 
   -- ---- lines inside functions
 
   begun_told : (n : ℕ) (entry : Loc) (blocks : List Block) → IsLabel n entry → AllByRecursion (IsToldBlock n) blocks → AllByRecursion (IsToldBlock n) (begun entry blocks)
   begun_told n entry [] label told = (record { label = label; insts = tt }, tt)
   begun_told n entry (block ∷ blocks) label told = told
-
-  begun_some : (entry : Loc) (blocks : List Block) → begun entry blocks ≡ [] → ⊥
-  begun_some entry [] e = cc
-  begun_some entry (block ∷ blocks) e = cc
 
   inst_told : (n : ℕ) (blocks : List Block) (inst : Inst) → IsTold inst → AllByRecursion (IsToldBlock n) blocks → AllByRecursion (IsToldBlock n) (with_inst blocks inst)
   inst_told n [] inst is told = tt
@@ -184,7 +182,7 @@ module _ (text more : List ℕ) where
   told_body tree f entry tokens (bodies.Label at) told sound is = by is.is
     where
       by_label : IsToken true Label (name_from whole at.0 ++ codes ":") → IsToldSheet (with_body tree f entry (bodies.Label at))
-      by_label h = (told.0, all_append (IsToldBlock (length f.params)) f.blocks (new_block at ∷ []) told.1 (record { label = Written h; insts = tt }, tt), told.2, tt)
+      by_label h = (told.0, all_append (IsToldBlock (length f.params)) f.blocks (new_block at ∷ []) told.1 (record { label = Written h; insts = tt }, tt), told.2, tt, told.4)
 
       by : body_line.means (tokens_of text tokens) (bodies.Label at) → IsToldSheet (with_body tree f entry (bodies.Label at))
       by (inl h) =
@@ -200,10 +198,10 @@ module _ (text more : List ℕ) where
       by (inr (inr h)) =
           let same : h.value ≡ inst = cc in
           let it : IsTold inst = record { tokens = tokens; sound = sound; stands = record { shallow = is.shallow; is = subst (λ (i : Inst). instruction.means (tokens_of text tokens) i) same h.is } } in
-          (told.0, inst_told (length f.params) (begun entry f.blocks) inst it (begun_told (length f.params) entry f.blocks told.2 told.1), told.2, tt)
+          (told.0, inst_told (length f.params) (begun entry f.blocks) inst it (begun_told (length f.params) entry f.blocks told.2 told.1), told.2, tt, told.4)
   told_body tree f entry tokens bodies.End told sound is =
       all_append IsToldFunc tree.funcs (record f { blocks = begun entry f.blocks } ∷ []) told.0
-      (record { entry = begun_some entry f.blocks; each = begun_told (length f.params) entry f.blocks told.2 told.1 }, tt)
+      (record { params = told.4; each = begun_told (length f.params) entry f.blocks told.2 told.1 }, tt)
 
   -- ---- all lines
 
@@ -212,9 +210,9 @@ module _ (text more : List ℕ) where
   pending_told (Inside tree f entry pending) told = told.3
 
   says_told : (sheet next : Sheet) (tokens : List Token) → AreSound tokens → IsToldSheet sheet → Says text sheet tokens next → IsToldSheet next
-  says_told (Outside tree) next tokens sound told h = subst IsToldSheet (sym h.2) (told_top tree h.0 told)
-  says_told (Inside tree f entry pending) next tokens sound told (inl h) = subst IsToldSheet (sym h.2) (told_body tree f entry tokens h.0 (told.0, told.1, told.2, tt) sound h.1)
-  says_told (Inside tree f entry pending) next tokens sound told (inr h) = subst IsToldSheet (sym h.1) (told.0, told.1, told.2, sound)
+  says_told (Outside tree) next tokens sound told h = subst IsToldSheet (sym h.2) (told_top tree h.0 told (line_written (tokens_of text tokens) h.0 h.1.is))
+  says_told (Inside tree f entry pending) next tokens sound told (inl h) = subst IsToldSheet (sym h.2) (told_body tree f entry tokens h.0 (told.0, told.1, told.2, tt, told.4) sound h.1)
+  says_told (Inside tree f entry pending) next tokens sound told (inr h) = subst IsToldSheet (sym h.1) (told.0, told.1, told.2, sound, told.4)
 
   leads_told : (sheet next : Sheet) (line : Line) → LineLies text whole line → IsToldSheet sheet → Leads text sheet line next → IsToldSheet next
   leads_told sheet next line lies told (Dropped _ e) = subst IsToldSheet (sym e) told

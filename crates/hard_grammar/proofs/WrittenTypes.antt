@@ -21,7 +21,7 @@ use Rattle.ir_grammar.specs.Words.{entry, in_table}
 use Rattle.ir_grammar.specs.Types.{scalar_word, memory_word, number_word, rmw_type_word}
 use Rattle.ir_grammar.specs.Lines.{binary, comparison, selection, conversion, element, allocation, loading, updating, exchange, extraction, call, marked_call, phi, storing, fencing, branch, switching, returning, line_with, line_without, result_line, instruction}
 use Rattle.ir_numbering.specs.Renaming.{Renaming, renamed_inst}
-use Rattle.hard_grammar.specs.Words.{OneWord, AnInt, APtr}
+use Rattle.hard_grammar.proofs.Words.{OneWord, AnInt, APtr}
 use Rattle.hard_grammar.proofs.OwnLines.{word_renamed}
 
 -- ---- words of tables

@@ -1,16 +1,14 @@
-//! Which hardened modules have lines (`specs/Standing.antt`, `Words.antt`).
+//! That hardened modules have lines (`specs/Standing.antt`).
 ghost use Rattle.ir_core.specs.Module.{ModuleParts};
 ghost use Rattle.ir_parse_top.specs.Text.{IsOfText};
 ghost use Rattle.ir_check.specs.Faults.{IsAccepted};
 ghost use Rattle.hard_ir.specs.Image.{flow_table, check_table};
 ghost use Rattle.hard_ir.specs.Hardened.{hardened_by};
-ghost use Rattle.hard_grammar.specs.Words.{HaveWords};
 ghost use Rattle.hard_grammar.specs.Standing.{HasLines};
 
-/// Where the parameters and results of an accepted module of a text are words, or what a `cmpxchg` gives, each function of its hardened
-/// module has a block, and a line of hardened text stands for each label, each phi and each instruction: with masters, shadows and
-/// copies, and with checks too.
+/// Each function of the hardened module of an accepted module of a text has a block, and a line of hardened text stands for each label,
+/// each phi and each instruction: with masters, shadows and copies, and with checks too.
 pub fn hardened_modules_have_lines()
-    ensures flow { (m : ModuleParts) → IsAccepted m → IsOfText m → HaveWords m → HasLines (hardened_by flow_table m) }
-    ensures checks { (m : ModuleParts) → IsAccepted m → IsOfText m → HaveWords m → HasLines (hardened_by check_table m) }
+    ensures flow { (m : ModuleParts) → IsAccepted m → IsOfText m → HasLines (hardened_by flow_table m) }
+    ensures checks { (m : ModuleParts) → IsAccepted m → IsOfText m → HasLines (hardened_by check_table m) }
 {}

@@ -14,3 +14,4 @@ mod Numerals
 pub mod TextLaws
 mod CountLaws
 pub mod NumeralLaws
+pub mod BlockLaws

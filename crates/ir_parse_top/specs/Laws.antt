@@ -1,5 +1,5 @@
 -- What holds of whole texts, by their definitions alone.
-use Rattle.std.specs.Prelude.{ℕ, ◌≡◌, ◌<◌, ◌≤◌, List, length}
+use Rattle.std.specs.Prelude.{ℕ, ◌≡◌, ◌<◌, ◌≤◌, List, length, Some, slice_get}
 use Rattle.std.specs.List.{flat_map}
 use Rattle.std.specs.Fmt.{decimal}
 use Rattle.ir_core.specs.declared.instruction.Block.{Block}
@@ -43,6 +43,12 @@ ModulesAreWithin = (text : List ℕ) (m : ModuleParts) → Text text m → instr
 -- a text of at most 4 MiB stands for a module of at most as many instructions
 abbrev pub ModulesAreSmall : Type 0
 ModulesAreSmall = (text : List ℕ) (m : ModuleParts) → length text ≤ 4194304 → Text text m → instruction_count m ≤ 4194304
+
+-- ---- blocks
+
+-- each function of a module that a text stands for has a block
+abbrev pub FunctionsHaveBlocks : Type 0
+FunctionsHaveBlocks = (text : List ℕ) (m : ModuleParts) → Text text m → (n : ℕ) (f : FuncParts) → slice_get m.funcs n ≡ Some f → 0 < length f.blocks
 
 -- ---- names behind a text
 

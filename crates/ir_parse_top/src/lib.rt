@@ -16,5 +16,5 @@ mod switches;
 mod whole;
 
 pub use errors::ParseError;
-pub use laws::{module_is_small, numerals_are_names, text_or_unfit};
+pub use laws::{functions_have_blocks, module_is_small, numerals_are_names, text_or_unfit};
 pub use whole::parse_module;
