@@ -1,7 +1,7 @@
 -- An event makes one turn of the source's run at most.
 use Rattle.std.proofs.Common.{ℕ, zero, suc, ◌≡◌, ◌+◌, ◌≤◌, ◌==◌, List, [], ◌∷◌, Option, Some, None, Bool, true, false, length, length-append, slice_get, refl, ap, arith}
 use Rattle.ir_core.specs.declared.types.Loc.{Loc}
-use Rattle.ir_action.specs.Registers.{get}
+use Rattle.inst_meaning.specs.Registers.{get}
 use Rattle.sched_file.specs.Events.{Happening, TurnOf, AbortOf, UpsetBy}
 use Rattle.src_meaning.specs.declared.state.Step.{Step}
 use Rattle.src_meaning.specs.declared.state.Step.TheVariants.{Went, Undefined, Ended as EndsProgram}

@@ -3,7 +3,7 @@ use Rattle.std.proofs.Common.{ℕ, zero, suc, ◌≡◌, ◌+◌, ◌<◌, List,
 use Rattle.std.proofs.lemmas.List.{take_more, length-take-le, take-map, get_or-map, length-map}
 use Rattle.std.proofs.lemmas.Option.{slice_get_within, get_or_from_slice_get}
 use Rattle.ir_core.specs.declared.instruction.Block.{Block}
-use Rattle.ir_action.specs.Registers.{put}
+use Rattle.inst_meaning.specs.Registers.{put}
 use Rattle.hard_ir.specs.declared.instruction.HBlock.{HBlock}
 use Rattle.src_meaning.specs.Labels.{IsTable}
 use Rattle.src_meaning.proofs.Tables.{IsTable-more}

@@ -6,7 +6,7 @@ use Rattle.ir_core.specs.declared.values.Side.TheVariants.{S}
 use Rattle.inst_meaning.specs.declared.actions.Cause.TheVariants.{Unreachable}
 use Rattle.inst_meaning.specs.declared.actions.Action.TheVariants.{Assign, Pass, Fault}
 use Rattle.inst_meaning.specs.Accesses.{IsFitting}
-use Rattle.ir_action.specs.Registers.{get}
+use Rattle.inst_meaning.specs.Registers.{get}
 use Rattle.hard_ir.specs.declared.instruction.HInst.{HInst}
 use Rattle.hard_ir.specs.declared.instruction.HInst.TheVariants.{Chk, Mov, Do}
 use Rattle.hard_ir.specs.Hardened.{HardParts}

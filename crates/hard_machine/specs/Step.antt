@@ -32,7 +32,7 @@ use Rattle.src_meaning.specs.declared.state.Step.{Step}
 use Rattle.src_meaning.specs.declared.state.Step.TheVariants.{Went, Waits, Undefined, Ended as EndsProgram}
 use Rattle.src_meaning.specs.State.{stack_start}
 use Rattle.src_meaning.specs.Step.{unless, unless_valid, frame_limit}
-use Rattle.ir_action.specs.Registers.{get, put}
+use Rattle.inst_meaning.specs.Registers.{get, put}
 use Rattle.hard_ir.specs.declared.instruction.When.{When}
 use Rattle.hard_ir.specs.declared.instruction.When.TheVariants.{Always, Plain, Tx}
 use Rattle.hard_ir.specs.declared.instruction.HInst.{HInst}

@@ -1,6 +1,6 @@
 //! The blocks that labels name.
 ghost use Rattle.std.specs.Prelude.{◌≡◌, [], length, map, slice_index_or, IfOk, OnOk};
-ghost use Rattle.ir_action.specs.Registers.{put};
+ghost use Rattle.inst_meaning.specs.Registers.{put};
 ghost use Rattle.src_meaning.specs.Labels.{IsTable, named_in};
 ghost use Rattle.hard_machine.specs.Labels.{AreTables};
 ghost use Rattle.hard_machine.specs.Step.{labelled};

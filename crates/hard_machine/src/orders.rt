@@ -1,6 +1,6 @@
 //! What hardened instructions ask for.
 ghost use Rattle.std.specs.Prelude.{◌≡◌, IfOk};
-ghost use Rattle.ir_action.specs.Registers.{get};
+ghost use Rattle.inst_meaning.specs.Registers.{get};
 ghost use Rattle.hard_machine.specs.Step.{is_active, destination_on};
 ghost use Rattle.hard_machine.specs.Landing.{passing, undefined, comparing, checking, copying};
 

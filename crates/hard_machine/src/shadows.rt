@@ -1,7 +1,7 @@
 //! The shadows' registers of a frame.
 ghost use Rattle.std.specs.Prelude.{◌≡◌, [], IfOk, OnOk, OnErr, Some, true};
 ghost use Rattle.std.specs.Option.{is_some};
-ghost use Rattle.ir_action.specs.Registers.{get};
+ghost use Rattle.inst_meaning.specs.Registers.{get};
 ghost use Rattle.ir_layout.specs.Memory.{layout_of};
 ghost use Rattle.inst_meaning.specs.Accesses.{IsFitting};
 ghost use Rattle.inst_meaning.specs.Action.{action_of, callees_of};

@@ -1,1 +1,16 @@
-
+pub mod Sides
+pub mod Files
+pub mod Instructions
+pub mod Heads
+pub mod Headed
+pub mod Hardening
+pub mod Landing
+pub mod Points
+pub mod Threads
+pub mod Turns
+pub mod Kept
+pub mod Entries
+pub mod Edges
+pub mod Effects
+pub mod Steps
+pub mod Simulation

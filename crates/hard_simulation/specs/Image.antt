@@ -2,10 +2,10 @@
 -- with other marks.
 --
 -- Choices: an image has the heads of the source and its labels, and the phis of the table. What stands in a block is the image of its
--- instructions one after another, behind the copies of parameters where the block is an entry. Before the image of an instruction pairs
--- of `cut` and `begin` may stand, any number of times, and each image may begin with ticks of any number; the columns that are built so
--- far make none of these.
-use Rattle.std.specs.Prelude.{ℕ, zero, suc, ◌≡◌, List, [], ◌∷◌, ◌++◌, map, Option, Some, None, slice_get}
+-- instructions one after another, behind the copies of parameters where the block is an entry. In a list nothing stands for a phi. Before
+-- the image of another instruction pairs of `cut` and `begin` may stand, any number of times, and it may begin with ticks of any number;
+-- the columns that are built so far make none of these.
+use Rattle.std.specs.Prelude.{ℕ, zero, suc, ◌≡◌, true, false, List, [], ◌∷◌, ◌++◌, map, Option, Some, None, slice_get}
 use Rattle.std.specs.List.{flat_map}
 use Rattle.std.specs.Option.{option_map_or}
 use Rattle.ir_core.specs.declared.types.Ty.{Ty}
@@ -14,6 +14,7 @@ use Rattle.ir_core.specs.declared.values.Val.{Val}
 use Rattle.ir_core.specs.declared.instruction.Inst.{Inst}
 use Rattle.ir_core.specs.declared.instruction.Block.{Block}
 use Rattle.ir_core.specs.Module.{ModuleParts}
+use Rattle.inst_meaning.specs.Phis.{is_phi}
 use Rattle.src_meaning.specs.State.{blocks_at as source_blocks}
 use Rattle.hard_ir.specs.declared.instruction.HInst.{HInst}
 use Rattle.hard_ir.specs.declared.instruction.HInst.TheVariants.{Cut, Begin, Tick}
@@ -33,11 +34,14 @@ abbrev pub copies_onto : List (Ty × Loc) → List HInst → List HInst
 copies_onto registers code = map copy_of registers ++ code
 
 -- the code is an image of the instructions
-pub data Image (insts : List Inst) (code : List HInst) : Type 0 where
-  Over : insts ≡ [] → code ≡ [] → Image insts code
-  Marked : (rest : List HInst) → code ≡ Cut ∷ Begin ∷ rest → Image insts rest → Image insts code
-  Next : (inst : Inst) (behind : List Inst) (ticks : List ℕ) (rest : List HInst) → insts ≡ inst ∷ behind
-      → code ≡ ticks_onto ticks (checks_onto (checked inst) (flow inst ++ rest)) → Image behind rest → Image insts code
+pub data Image : List Inst → List HInst → Type 0 where
+  Over : {insts : List Inst} {code : List HInst} → insts ≡ [] → code ≡ [] → Image insts code
+  Marked : {insts : List Inst} {code : List HInst} (rest : List HInst) → code ≡ Cut ∷ Begin ∷ rest → Image insts rest → Image insts code
+  Phi : {insts : List Inst} {code : List HInst} (phi : Inst) (behind : List Inst) → insts ≡ phi ∷ behind → is_phi phi ≡ true
+      → Image behind code → Image insts code
+  Next : {insts : List Inst} {code : List HInst} (inst : Inst) (behind : List Inst) (ticks : List ℕ) (rest : List HInst)
+      → insts ≡ inst ∷ behind → is_phi inst ≡ false → code ≡ ticks_onto ticks (checks_onto (checked inst) (flow inst ++ rest))
+      → Image behind rest → Image insts code
 
 -- the parameters that are copied where a block begins
 abbrev pub copied_at : ModuleParts → ℕ → ℕ → List (Ty × Loc)

@@ -3,13 +3,13 @@
 -- Choices: a result stands for one run of the source, the one on the turns that it tells. Nothing is said of a program that comes to an
 -- undefined step or a race in some interleaving; but until a thread could take an undefined step on these turns, the result stands for
 -- its source whatever else the program does.
-use Rattle.std.specs.Prelude.{ℕ, ◌≡◌, ◌↔◌, Bool, true, List, [], ◌∷◌, ◌++◌, Option, Some, None, IsTrue}
+use Rattle.std.specs.Prelude.{ℕ, ◌≡◌, ◌↔◌, List, [], ◌∷◌, ◌++◌, Option, Some, None, IsTrue}
 use Rattle.std.specs.List.{list_all}
 use Rattle.ir_core.specs.Module.{ModuleParts}
 use Rattle.inst_meaning.specs.declared.actions.Cause.{Cause}
 use Rattle.sched_file.specs.Events.{Happening}
 use Rattle.src_meaning.specs.declared.state.Step.{Step}
-use Rattle.src_meaning.specs.declared.state.Step.TheVariants.{Went, Waits, Idle, Undefined, Ended}
+use Rattle.src_meaning.specs.declared.state.Step.TheVariants.{Went, Undefined, Ended}
 use Rattle.src_meaning.specs.Step.{step}
 use Rattle.src_meaning.specs.Runs.{source}
 use Rattle.turn_runs.specs.Runs.{turns_of}

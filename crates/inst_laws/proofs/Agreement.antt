@@ -14,7 +14,7 @@ use Rattle.op_table.specs.Operators.{bits, binary, compares, converted}
 use Rattle.ir_layout.specs.Memory.{LayoutParts}
 use Rattle.ir_calls.specs.declared.externals.External.{External}
 use Rattle.ir_calls.specs.declared.externals.External.TheVariants.{PthreadCreate, PthreadJoin, MutexLock, MutexUnlock, Putchar, Exit as ExitProgram, Malloc, Free, HaftOut, HaftArg}
-use Rattle.ir_action.specs.Registers.{get, put}
+use Rattle.inst_meaning.specs.Registers.{get, put}
 use Rattle.inst_meaning.specs.declared.actions.Callee.{Callee}
 use Rattle.inst_meaning.specs.declared.actions.Callee.TheVariants.{Defined, Outside, Unknown}
 use Rattle.inst_meaning.specs.declared.actions.Cause.TheVariants.{Unreachable}

@@ -4,8 +4,8 @@ use Rattle.std.proofs.Common.{ℕ, zero, suc, max, ◌≡◌, ◌+◌, ◌-◌, 
 use Rattle.std.proofs.lemmas.Bool.{cases_lt}
 use Rattle.std.proofs.lemmas.List.{take_all, at_drop_more}
 use Rattle.ir_core.specs.declared.types.Loc.{Loc}
-use Rattle.ir_action.specs.Registers.{put}
-use Rattle.ir_action.proofs.Puts.{put-within, put-grown}
+use Rattle.inst_meaning.specs.Registers.{put}
+use Rattle.inst_meaning.proofs.Puts.{put-within, put-grown}
 use Rattle.inst_meaning.specs.Phis.{all_assigned}
 
 -- how long a file of this length is once words went to it

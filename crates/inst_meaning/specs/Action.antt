@@ -35,7 +35,7 @@ use Rattle.ir_calls.specs.declared.externals.External.TheVariants.{PthreadCreate
 use Rattle.ir_calls.specs.Externals.{external_of}
 use Rattle.ir_calls.specs.Calls.{external_named}
 use Rattle.mem_image.specs.Opening.{size_in}
-use Rattle.ir_action.specs.Registers.{get}
+use Rattle.inst_meaning.specs.Registers.{get}
 use Rattle.inst_meaning.specs.declared.actions.Callee.{Callee}
 use Rattle.inst_meaning.specs.declared.actions.Callee.TheVariants.{Defined, Outside, Unknown}
 use Rattle.inst_meaning.specs.declared.actions.Cause.{Cause}

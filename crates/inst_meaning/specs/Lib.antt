@@ -3,3 +3,4 @@ pub mod Action
 pub mod Operands
 pub mod Phis
 pub mod World
+pub mod Registers

@@ -17,7 +17,7 @@ use Rattle.ir_layout.specs.Memory.{LayoutParts}
 use Rattle.mem_image.specs.Opening.{address_in, inner_address}
 use Rattle.mem_image.specs.declared.sizes.Size.{Size}
 use Rattle.mem_image.specs.declared.sizes.Size.TheVariants.{S1, S2, S4, S8}
-use Rattle.ir_action.specs.Registers.{get}
+use Rattle.inst_meaning.specs.Registers.{get}
 
 -- the width of the words of a type, where it has words
 abbrev pub width_step : Ty-F Ty → Option Width

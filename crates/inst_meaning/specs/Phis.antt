@@ -10,7 +10,7 @@ use Rattle.ir_core.specs.declared.values.Val.{Val}
 use Rattle.ir_core.specs.declared.instruction.Inst.{Inst}
 use Rattle.ir_core.specs.declared.instruction.Inst.TheVariants as insts
 use Rattle.ir_layout.specs.Memory.{LayoutParts}
-use Rattle.ir_action.specs.Registers.{put}
+use Rattle.inst_meaning.specs.Registers.{put}
 use Rattle.inst_meaning.specs.Operands.{typed_word}
 
 abbrev pub is_phi : Inst → Bool

@@ -1,6 +1,6 @@
 //! Register files.
 ghost use Rattle.std.specs.Prelude.{◌≡◌, ◌+◌, max, fold, IfOk, OnOk, OnErr, []};
-ghost use Rattle.ir_action.specs.Registers.{get};
+ghost use Rattle.inst_meaning.specs.Registers.{get};
 ghost use Rattle.inst_meaning.specs.Phis.{assigned, all_assigned};
 
 use ir_core::Loc;

@@ -13,4 +13,4 @@ mod TreeLines
 mod Numerals
 pub mod TextLaws
 mod CountLaws
-mod NumeralLaws
+pub mod NumeralLaws

@@ -249,7 +249,7 @@ no-params : {A : Type 0} (xs : List A) → is_empty xs ≡ true → 0 ≡ length
 no-params [] e = refl
 no-params (x ∷ xs) e = cc
 
-main-enters : (m : ModuleParts) → IsAccepted m → Enters m (main_of m) 0
+pub main-enters : (m : ModuleParts) → IsAccepted m → Enters m (main_of m) 0
 main-enters m accepted =
     let place = any-position (is_main m) m.funcs (main-there m accepted) in
     let found = at-position (is_main m) m.funcs place.0 place.1 in

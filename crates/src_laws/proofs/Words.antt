@@ -10,7 +10,7 @@ use Rattle.ir_core.specs.declared.instruction.Inst.{Inst}
 use Rattle.ir_core.specs.declared.instruction.Inst.TheVariants as insts
 use Rattle.ir_layout.specs.Memory.{LayoutParts}
 use Rattle.ir_flow.specs.Paths.{is_reg, assigned_by, assigns}
-use Rattle.ir_action.specs.Registers.{get, put}
+use Rattle.inst_meaning.specs.Registers.{get, put}
 use Rattle.inst_meaning.specs.Phis.{phi_word, phi_words, phi_words_with, assigned, all_assigned}
 use Rattle.src_laws.specs.Assigned.{HasWord}
 

@@ -11,7 +11,7 @@ use Rattle.ir_core.specs.declared.instruction.Block.{Block}
 use Rattle.ir_core.specs.Module.{ModuleParts, FuncParts}
 use Rattle.ir_flow.specs.Edges.{labels_of, number_of}
 use Rattle.ir_flow.specs.Uses.{reg_in, regs_in, arms_in}
-use Rattle.ir_action.specs.Registers.{get}
+use Rattle.inst_meaning.specs.Registers.{get}
 use Rattle.inst_meaning.specs.Phis.{phis_of, arm_from}
 use Rattle.src_meaning.specs.declared.state.Frame.{Frame}
 use Rattle.src_meaning.specs.State.{blocks_at, code_at}

@@ -5,7 +5,7 @@ use Rattle.std.proofs.lemmas.List.{at_drop_more, at_drop_all, get_or-map, length
 use Rattle.std.proofs.lemmas.Slice.Zip.{length-zip, get_or-zip}
 use Rattle.ir_core.specs.declared.types.Loc.{Loc}
 use Rattle.ir_core.specs.declared.types.Ty.{Ty}
-use Rattle.ir_action.specs.Registers.{put}
+use Rattle.inst_meaning.specs.Registers.{put}
 use Rattle.inst_meaning.specs.Phis.{all_assigned}
 
 abbrev pub words_for : List (Ty × Loc) → List ℕ → List (Loc × ℕ)

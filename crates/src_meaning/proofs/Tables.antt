@@ -4,7 +4,7 @@ use Rattle.std.proofs.lemmas.Bool.{eqb-false}
 use Rattle.std.proofs.lemmas.List.{take_more, length-take-le}
 use Rattle.ir_core.specs.declared.instruction.Block.{Block}
 use Rattle.ir_core.specs.Module.{FuncParts}
-use Rattle.ir_action.specs.Registers.{get, put}
+use Rattle.inst_meaning.specs.Registers.{get, put}
 use Rattle.ir_flow.proofs.Labelled.{numbers-more}
 use Rattle.src_meaning.specs.Labels.{IsTable, AreTables}
 

@@ -1,6 +1,6 @@
 //! The blocks that labels name.
 ghost use Rattle.std.specs.Prelude.{◌≡◌, [], slice_index_or, IfOk, OnOk};
-ghost use Rattle.ir_action.specs.Registers.{put};
+ghost use Rattle.inst_meaning.specs.Registers.{put};
 ghost use Rattle.ir_flow.specs.Edges.{number_of};
 ghost use Rattle.src_meaning.specs.Labels.{IsTable, AreTables, named_in};
 ghost use Rattle.src_meaning.specs.State.{blocks_at};

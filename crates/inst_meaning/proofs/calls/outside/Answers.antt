@@ -1,5 +1,5 @@
 use Rattle.std.proofs.Common.{sym}
-use Rattle.ir_action.proofs.Takes.{map-take_more}
+use Rattle.inst_meaning.proofs.Takes.{map-take_more}
 use Rattle.inst_meaning.specs.Action.{outside_callee}
 use Rattle.inst_meaning.proofs.calls.outside.Goals as goal
 

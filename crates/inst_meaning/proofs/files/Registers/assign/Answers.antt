@@ -1,6 +1,6 @@
 -- The file is grown by registers without words where it is too short, and then the word is set.
 use Rattle.std.proofs.Common.{arith}
-use Rattle.ir_action.proofs.Puts.{put-within, put-resized}
+use Rattle.inst_meaning.proofs.Puts.{put-within, put-resized}
 use Rattle.inst_meaning.proofs.files.Registers.assign.Goals as goal
 use Rattle.inst_meaning.proofs.files.Registers.assign.Goals.{then-at-len+in_ok-resize, else-at-len}
 

@@ -1,6 +1,6 @@
 -- The table is grown by labels without blocks where it is too short, and then the label's block is set.
 use Rattle.std.proofs.Common.{arith}
-use Rattle.ir_action.proofs.Puts.{put-within, put-resized}
+use Rattle.inst_meaning.proofs.Puts.{put-within, put-resized}
 use Rattle.src_meaning.proofs.labels.LabelTable.set.Goals as goal
 use Rattle.src_meaning.proofs.labels.LabelTable.set.Goals.{then-at-len+in_ok-resize, else-at-len}
 

@@ -1,7 +1,7 @@
 -- A register is assigned in a file that has room for it, or that is first grown by registers without words.
 use Rattle.std.proofs.Common.{ℕ, zero, suc, ◌≡◌, ◌+◌, ◌-◌, ◌<◌, ◌≤◌, List, [], ◌∷◌, ◌++◌, Option, Some, None, length, refl, ap, ◌∙◌, arith, slice_set, replicate, take, length-append}
 use Rattle.std.proofs.lemmas.List.{take_all, length-replicate}
-use Rattle.ir_action.specs.Registers.{put}
+use Rattle.inst_meaning.specs.Registers.{put}
 
 pub put-within : (xs : List (Option ℕ)) (at word : ℕ) → at < length xs → slice_set xs at (Some word) ≡ put xs at word
 put-within [] at word h = absurd (omega arith)
