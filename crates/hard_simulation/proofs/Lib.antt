@@ -14,3 +14,4 @@ pub mod Edges
 pub mod Effects
 pub mod Steps
 pub mod Simulation
+pub mod Differing

@@ -2,5 +2,7 @@
 #![tactic(auto)]
 
 mod laws;
+mod samples;
 
 pub use laws::hardened_runs_stand_for_the_source;
+pub use samples::a_check_of_differing_sides_fails;
