@@ -6,8 +6,10 @@ use Rattle.hard_ir.specs.declared.instruction.HBlock.{HBlock}
 use Rattle.hard_ir.specs.Facts.{IsHardened, AreShort}
 use Rattle.hard_ir.specs.Fit.{Fits}
 use Rattle.hard_ir.specs.Hardened.{HardParts, IsHardenedBy}
+use Rattle.hard_ir.specs.Standing.{HasLines}
 use Rattle.hard_ir.specs.Image.{flow_table}
 use Rattle.hard_laws.proofs.Fitting.{check-fits}
+use Rattle.hard_grammar.proofs.Modules.{check_has_lines}
 use Rattle.check_insert.proofs.Column.{column}
 use Rattle.check_insert.specs.Checks.{checked_block, checked_funcs, checked_module}
 
@@ -15,12 +17,15 @@ abbrev of_parts : ModuleParts → List (List HBlock) → HardParts
 of_parts heads funcs = record { heads = heads; funcs = funcs }
 
 IsHardened-checked : (h : HardParts) → IsHardenedBy flow_table h → IsHardened h → AreShort (checked_funcs h.funcs) → IsHardened (checked_module h)
-IsHardened-checked h flows is short = record {
-  bare = is.bare;
-  count = length-map h.funcs (map checked_block) ∙ is.count;
-  short = short;
-  fits = subst Fits (sym (ap checked_module flows.is ∙ column flows.source)) (check-fits flows.source flows.accepted);
-}
+IsHardened-checked h flows is short =
+    let made = sym (ap checked_module flows.is ∙ column flows.source) in
+    record {
+      bare = is.bare;
+      count = length-map h.funcs (map checked_block) ∙ is.count;
+      short = short;
+      fits = subst Fits made (check-fits flows.source flows.accepted);
+      lines = subst HasLines made (check_has_lines flows.source flows.accepted flows.of_text);
+    }
 
 pub kept : (h : HardParts) (heads : ModuleParts) (blocks funcs : List (List HBlock)) → IsHardenedBy flow_table h → IsHardened h → heads ≡ h.heads → blocks ≡ h.funcs
     → funcs ≡ checked_funcs blocks → AreShort funcs → IsHardened (of_parts heads funcs)

@@ -13,7 +13,8 @@ use std::alloc::{AllocError, Global};
 /// compared, master with shadow, in the order of the table. What only computes is not checked, nor is a constant; of a store the
 /// pointer is checked before the word.
 ///
-/// The module is the answer of the pass before for some accepted module: its two flows become its two flows with checks. The heads are handed on, and each item stays where it stood.
+/// The module is the answer of the pass before for some accepted module of a text: its two flows become its two flows with checks. The
+/// heads are handed on, and each item stays where it stood.
 /// It takes time and memory in proportion to the module. Where memory is wanting, or a list would reach 4,294,967,295 items, there is
 /// no module, and the one given is dropped.
 pub fn checks(alloc: Global, h: Hardened) -> Result<Hardened, AllocError>

@@ -162,13 +162,15 @@ module _ (m : ModuleParts) (accepted : IsAccepted m) where
 
   -- ---- what may be called
 
-  declares_plain : (declares : List Declare) → find (λ line. not (types_keep m line)) (map DeclareLine declares) ≡ None → AllByRecursion IsPlainStanding (map of_declare declares)
+  declares_plain : (declares : List Declare) → find (λ line. not (types_keep m line)) (map DeclareLine declares) ≡ None
+      → AllByRecursion IsPlainStanding (map of_declare declares)
   declares_plain [] e = tt
   declares_plain (declare ∷ declares) e =
       let h = kept_first (types_keep m) (DeclareLine declare) (map DeclareLine declares) e in
       ((both_true (has_no_parts declare.ret) (list_all has_no_parts declare.params) h.0).0, declares_plain declares h.1)
 
-  funcs_plain : (n : ℕ) (funcs : List FuncParts) → find (λ line. not (types_keep m line)) (funcs_lines n funcs) ≡ None → AllByRecursion IsPlainStanding (map of_func funcs)
+  funcs_plain : (n : ℕ) (funcs : List FuncParts) → find (λ line. not (types_keep m line)) (funcs_lines n funcs) ≡ None
+      → AllByRecursion IsPlainStanding (map of_func funcs)
   funcs_plain n [] e = tt
   funcs_plain n (f ∷ funcs) e =
       let h = kept_split (λ line. not (types_keep m line)) (func_lines n f) (funcs_lines (n + 1) funcs) e in
@@ -182,5 +184,5 @@ module _ (m : ModuleParts) (accepted : IsAccepted m) where
   pub callees_plain : AllByRecursion IsPlainStanding (standings m)
   callees_plain =
       let typed = in_code TypeMismatch (types_keep m) rules.1 in
-      all_append IsPlainStanding (map of_global m.globals ++ map of_declare m.declares) (map of_func m.funcs)
-      (all_append IsPlainStanding (map of_global m.globals) (map of_declare m.declares) (globals_plain m.globals) (declares_plain m.declares typed.0)) (funcs_plain 0 m.funcs typed.1)
+      let outer = all_append IsPlainStanding (map of_global m.globals) (map of_declare m.declares) (globals_plain m.globals) (declares_plain m.declares typed.0) in
+      all_append IsPlainStanding (map of_global m.globals ++ map of_declare m.declares) (map of_func m.funcs) outer (funcs_plain 0 m.funcs typed.1)

@@ -11,13 +11,15 @@ use Rattle.ir_core.specs.declared.instruction.Inst.{Inst}
 use Rattle.ir_core.specs.declared.instruction.Inst.TheVariants as insts
 use Rattle.ir_core.specs.declared.instruction.Block.{Block}
 use Rattle.ir_core.specs.Module.{FuncParts}
+use Rattle.ir_check.specs.Blocks.{is_phi}
 use Rattle.ir_flow.specs.Edges.{edges_of, is_loop_head}
 use Rattle.hard_ir.specs.declared.instruction.HInst.{HInst}
 use Rattle.hard_ir.specs.declared.instruction.HInst.TheVariants.{Do}
 use Rattle.hard_ir.specs.Image.{Table, single_result, copy_of, copies, flow, phi_image, flow_table, checked, check, check_table}
+use Rattle.hard_ir.specs.Fit.{must_retire}
 use Rattle.hard_ir.specs.Hardened.{at_entry, at_head, hard_block, hard_blocks, hard_func}
-use Rattle.hard_grammar.specs.Lines.{registers_of}
-use Rattle.hard_grammar.specs.Standing.{Tables, is_phi, must_retire, HasLine, HasPhiLine, HasBlockLines, HasFuncLines}
+use Rattle.hard_ir.specs.Lines.{registers_of}
+use Rattle.hard_ir.specs.Standing.{Tables, HasLine, HasPhiLine, HasBlockLines, HasFuncLines}
 use Rattle.hard_grammar.proofs.Ordinary.{HasOrdinaryLine, all_append, hardened_line}
 use Rattle.hard_grammar.proofs.Unflagged.{unflagged_ordinary}
 use Rattle.hard_grammar.proofs.OwnLines.{IsHeld, check_has_line, copy_has_line}

@@ -15,7 +15,7 @@ use Rattle.ir_parse_top.proofs.BlockLaws.{functions_have_blocks}
 use Rattle.ir_check.specs.Faults.{IsAccepted}
 use Rattle.hard_ir.specs.Image.{Table, flow_table, check_table}
 use Rattle.hard_ir.specs.Hardened.{head_of, hard_func, hardened_by}
-use Rattle.hard_grammar.specs.Standing.{Tables, tables_of, HasFuncLines, HasLines}
+use Rattle.hard_ir.specs.Standing.{Tables, tables_of, HasFuncLines, HasLines}
 use Rattle.hard_grammar.proofs.Ordinary.{all_map}
 use Rattle.hard_grammar.proofs.TextLines.{IsToldBlock, IsToldFunc, tree_told}
 use Rattle.hard_grammar.proofs.NumberedLines.{BlockFacts, FuncFacts, block_facts, param_facts}
@@ -69,7 +69,8 @@ numbered_facts text count table f within small told some =
     record {
       entry = some_blocks (map (renamed_block names) f.blocks) some;
       params = param_facts text count table named f.params;
-      values = all_map (λ (param : Ty × Loc). NotVoid param.0) (λ (param : Ty × Loc). NotVoid param.0) (renamed_param names) (λ param. not_void_renamed names param.0) f.params told.params;
+      values = all_map (λ (param : Ty × Loc). NotVoid param.0) (λ (param : Ty × Loc). NotVoid param.0) (renamed_param names)
+          (λ param. not_void_renamed names param.0) f.params told.params;
       each = all_map (IsToldBlock text (numerals 0 count) (length f.params)) (BlockFacts (tables_of table named)) (renamed_block names) (block_facts text count table named (length f.params) within small) f.blocks told.each;
     }
 
@@ -97,8 +98,10 @@ text_facts text m t few n f at =
 few_params : (m : ModuleParts) → IsAccepted m → FewParams m
 few_params m accepted n f at = let few = (func_fits m accepted n f at).few in omega (arith, few)
 
-func_held : (m : ModuleParts) → IsAccepted m → IsOfText m → (n : ℕ) (f : FuncParts) → slice_get m.funcs n ≡ Some f → FuncFacts (tables_of m f) f → HeldFunc f
-func_held m accepted t n f at facts = let fits = func_fits m accepted n f at in words_held m f (have_words m f (tables_of m f) (callees_plain m accepted) fits facts) fits
+func_held : (m : ModuleParts) → IsAccepted m → (n : ℕ) (f : FuncParts) → slice_get m.funcs n ≡ Some f → FuncFacts (tables_of m f) f → HeldFunc f
+func_held m accepted n f at facts =
+    let fits = func_fits m accepted n f at in
+    words_held m f (have_words m f (tables_of m f) (callees_plain m accepted) fits facts) fits
 
 lines_of_text : (table : Table) → ((tables : Tables) → IsLined tables table) → (m : ModuleParts) → IsAccepted m → IsOfText m → HasLines (hardened_by table m)
 lines_of_text table lined m accepted t n head blocks at there =
@@ -106,7 +109,7 @@ lines_of_text table lined m accepted t n head blocks at there =
     let g = map_at (hard_func table) m.funcs n blocks there in
     let same : f.0 ≡ g.0 = let e = f.1 in let h = g.1 in cc in
     let facts = text_facts t.text m t.stands (few_params m accepted) n f.0 f.1 in
-    let lines = func_lines (tables_of m f.0) table (lined (tables_of m f.0)) f.0 facts (func_held m accepted t n f.0 f.1 facts) in
+    let lines = func_lines (tables_of m f.0) table (lined (tables_of m f.0)) f.0 facts (func_held m accepted n f.0 f.1 facts) in
     subst (HasFuncLines (tables_of m head)) (ap (hard_func table) same ∙ g.2) (subst (λ (x : FuncParts). HasFuncLines (tables_of m x) (hard_func table f.0)) f.2 lines)
 
 pub flow_has_lines : (m : ModuleParts) → IsAccepted m → IsOfText m → HasLines (hardened_by flow_table m)

@@ -25,7 +25,7 @@ use Rattle.ir_numbering.specs.Numbers.{renaming_of}
 use Rattle.ir_parse_top.specs.Sheet.{numerals, with_numerals, numeral_at}
 use Rattle.ir_parse_top.proofs.NumeralLaws.{numerals_read}
 use Rattle.hard_ir.specs.Image.{checked, single_result}
-use Rattle.hard_grammar.specs.Standing.{Tables, tables_of, HasNumbers, HasKind, HasLabelLine}
+use Rattle.hard_ir.specs.Standing.{Tables, tables_of, HasNumbers, HasKind, HasLabelLine}
 use Rattle.hard_grammar.proofs.Ordinary.{HasOrdinaryLine, all_map, named_bytes}
 use Rattle.hard_grammar.proofs.LineTokens.{IsSound, IsRead}
 use Rattle.hard_grammar.proofs.Parameters.{AreValues}

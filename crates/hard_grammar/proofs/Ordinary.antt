@@ -16,8 +16,8 @@ use Rattle.ir_grammar.specs.Tokens.{is_punct}
 use Rattle.ir_grammar.specs.Fitting.{IsInstruction}
 use Rattle.ir_numbering.specs.Renaming.{Renaming, renamed_inst}
 use Rattle.ir_types.specs.Firsts.{entry_of, first_of}
-use Rattle.hard_grammar.specs.Lines.{mark, registers_of, is_register_at, on_side, sided, asterisk}
-use Rattle.hard_grammar.specs.Standing.{Tables, AreNumbered, HasKind, AreTokens, HasInstLine}
+use Rattle.hard_ir.specs.Lines.{mark, registers_of, is_register_at, on_side, sided, asterisk}
+use Rattle.hard_ir.specs.Standing.{Tables, AreNumbered, HasKind, AreTokens, HasInstLine}
 
 -- an ordinary line stands for the instruction
 pub record HasOrdinaryLine (tables : Tables) (inst : Inst) : Type 0 where

@@ -27,8 +27,8 @@ use Rattle.hard_ir.specs.declared.instruction.When.TheVariants.{Always}
 use Rattle.hard_ir.specs.declared.instruction.HInst.{HInst}
 use Rattle.hard_ir.specs.declared.instruction.HInst.TheVariants.{Chk, Mov}
 use Rattle.hard_ir.specs.Image.{pair_of}
-use Rattle.hard_grammar.specs.Lines.{mark, register_on, is_named_on, register_pair, check_line, copy_line, own_line}
-use Rattle.hard_grammar.specs.Standing.{Tables, HasNumbers, AreNumbered, HasKind, AreTokens, renamed_item, HasOwnLine}
+use Rattle.hard_ir.specs.Lines.{mark, register_on, is_named_on, register_pair, check_line, copy_line, own_line}
+use Rattle.hard_ir.specs.Standing.{Tables, HasNumbers, AreNumbered, HasKind, AreTokens, renamed_item, HasOwnLine}
 use Rattle.hard_grammar.proofs.Words.{OneWord, AnInt, APtr}
 use Rattle.hard_grammar.proofs.Ordinary.{all_append, marked}
 

@@ -59,7 +59,8 @@ not_void_renamed r ty some = by (out-Ty ty) refl
   where
     again : (layer : Ty-F Ty) → out-Ty ty ≡ layer → renamed_ty r ty ≡ renamed_step r (map-Ty Ty Ty (renamed_ty r) layer)
     again layer h =
-        ap (renamed_ty r) (sym (roll-out-Ty ty)) ∙ fold-roll-Ty Ty (renamed_step r) (out-Ty ty) ∙ ap (λ (l : Ty-F Ty). renamed_step r (map-Ty Ty Ty (renamed_ty r) l)) h
+        ap (renamed_ty r) (sym (roll-out-Ty ty)) ∙ fold-roll-Ty Ty (renamed_step r) (out-Ty ty)
+        ∙ ap (λ (l : Ty-F Ty). renamed_step r (map-Ty Ty Ty (renamed_ty r) l)) h
 
     by : (layer : Ty-F Ty) → out-Ty ty ≡ layer → NotVoid (renamed_ty r ty)
     by Ty-F.Void h = absurd (let clash : true ≡ false = sym (ap is_void_step h) ∙ some in cc)
@@ -80,22 +81,25 @@ HasValues line = Unit {0}
 
 param_written : (tokens : List Tok) (param : (Ty × Option Loc) × Bool) → defined_param.means tokens param → NotVoid param.0.0
 unfolding defined_param
-param_written tokens param h = subst NotVoid (sym (ap (λ (x : (Ty × Option Loc) × Bool). x.0.0) h.second.second.second.1)) (type_written any_depth h.front h.value h.first)
+param_written tokens param h =
+    subst NotVoid (sym (ap (λ (x : (Ty × Option Loc) × Bool). x.0.0) h.second.second.second.1)) (type_written any_depth h.front h.value h.first)
 
 chain_written : (params : List (Ty × Option Loc)) (tokens : List Tok) → IsChain defined_param.means params tokens → AreValues params
 chain_written [] tokens h = absurd h
 chain_written (param ∷ []) tokens h = (param_written tokens (param, false) h, tt)
 chain_written (param ∷ other ∷ params) tokens h = (param_written h.front (param, true) h.first, chain_written (other ∷ params) h.back h.rest)
 
-params_written : (params : List (Ty × Option Loc)) (tokens : List Tok) → (either (starts (is_punct close_paren)) (punct close_paren >>= λ _. gives []) (chain defined_param)).means tokens params
-    → AreValues params
+params_written : (params : List (Ty × Option Loc)) (tokens : List Tok)
+    → (either (starts (is_punct close_paren)) (punct close_paren >>= λ _. gives []) (chain defined_param)).means tokens params → AreValues params
 params_written params tokens (inl h) = subst AreValues (sym h.second.1) tt
 params_written params tokens (inr h) = chain_written params tokens h
 
 function_written : (word : TopWord) (tokens : List Tok) (line : TopLine) → (function_line word).means tokens line → HasValues line
 unfolding declare_line define_line
 function_written words.Declare tokens line h = subst HasValues (sym h.second.second.second.second.second.1) tt
-function_written words.Define tokens line h = subst HasValues (sym h.second.second.second.second.second.second.1) (params_written h.second.second.second.value h.second.second.second.first.back h.second.second.second.first.second)
+function_written words.Define tokens line h =
+    let list = h.second.second.second in
+    subst HasValues (sym list.second.second.second.1) (params_written list.value list.first.back list.first.second)
 
 -- the parameters of a line outside functions
 pub line_written : (tokens : List Tok) (line : TopLine) → top_line.means tokens line → HasValues line

@@ -19,7 +19,7 @@ use Rattle.ir_types.specs.Firsts.{first_of}
 use Rattle.ir_types.specs.Meanings.{Meaning, Pair, extracted, result_of, param_meaning, block_meanings, meanings}
 use Rattle.ir_types.specs.Types.{operand_fits, typed_operands, is_pair_of, names_label, labels_in, form_fits, inst_fits, has_no_parts}
 use Rattle.ir_calls.specs.Calls.{Standing, Variable, Declared, Defined, standings, first_standing, standing_of, takes, result_keeps, args_keep, external_named, inst_keeps}
-use Rattle.hard_grammar.specs.Standing.{Tables}
+use Rattle.hard_ir.specs.Standing.{Tables}
 use Rattle.hard_grammar.proofs.Ordinary.{all_append, first_among}
 use Rattle.hard_grammar.proofs.Words.{OneWord, AnInt, APtr, HasWordResult, HaveWordResults, AreWordParams, HasWords, plain_word, cast_word, same_plain_word}
 use Rattle.hard_grammar.proofs.Parameters.{AreValues}
@@ -64,18 +64,23 @@ pair_word names elem at pairs e = by (first_of names at) refl e
 
 -- ---- what a call gives
 
-callee_plain : (sym : Sym) (named : List (Sym × Standing)) (standing : Standing) → AllByRecursion IsPlainStanding named → first_standing sym named ≡ Some standing → IsPlain standing
+callee_plain : (sym : Sym) (named : List (Sym × Standing)) (standing : Standing) → AllByRecursion IsPlainStanding named
+    → first_standing sym named ≡ Some standing → IsPlain standing
 callee_plain sym [] standing plain e = absurd cc
 callee_plain sym (other ∷ named) standing plain e = by (nat_eq other.0.0 sym.0) e (callee_plain sym named standing plain.1)
   where
-    by : (t : Bool) → ◌≡◌ {A = Option Standing} (cond t (Some other.1) (first_standing sym named)) (Some standing) → (first_standing sym named ≡ Some standing → IsPlain standing) → IsPlain standing
+    by : (t : Bool) → ◌≡◌ {A = Option Standing} (cond t (Some other.1) (first_standing sym named)) (Some standing)
+        → (first_standing sym named ≡ Some standing → IsPlain standing) → IsPlain standing
     by true h rest = let same : other.1 ≡ standing = cc in subst IsPlain same plain.0
     by false h rest = rest h
 
-called_word : (standing : Standing) (ret : Ty) (args : List Ty) → IsPlain standing → takes (Some standing) ret args ≡ true → not (same_ty ret types.Void) ≡ true → OneWord ret
+called_word : (standing : Standing) (ret : Ty) (args : List Ty) → IsPlain standing → takes (Some standing) ret args ≡ true
+    → not (same_ty ret types.Void) ≡ true → OneWord ret
 called_word Variable ret args plain e some = absurd cc
-called_word (Declared signature) ret args plain e some = same_plain_word ret signature.result (both_true (same_ty ret signature.result) (same_types args signature.params) e).0 plain some
-called_word (Defined signature) ret args plain e some = same_plain_word ret signature.result (both_true (same_ty ret signature.result) (same_types args signature.params) e).0 plain some
+called_word (Declared signature) ret args plain e some =
+    same_plain_word ret signature.result (both_true (same_ty ret signature.result) (same_types args signature.params) e).0 plain some
+called_word (Defined signature) ret args plain e some =
+    same_plain_word ret signature.result (both_true (same_ty ret signature.result) (same_types args signature.params) e).0 plain some
 
 module _ (m : ModuleParts) (f : FuncParts) (tables : Tables) (callees : AllByRecursion IsPlainStanding (standings m)) where
   call_word : (dst : Loc) (ret : Ty) (callee : Sym) (args : List (Ty × Val)) → inst_keeps m (insts.Call (Some dst) ret callee args) ≡ true → OneWord ret
@@ -103,7 +108,8 @@ module _ (m : ModuleParts) (f : FuncParts) (tables : Tables) (callees : AllByRec
       by true = word
       by false = AnInt W1
 
-  result_word : (inst : Inst) → ArePairs (meanings f) → form_fits m.types (meanings f) f.ret inst ≡ true → inst_keeps m inst ≡ true → WritesWord inst → HasWordResult inst
+  result_word : (inst : Inst) → ArePairs (meanings f) → form_fits m.types (meanings f) f.ret inst ≡ true → inst_keeps m inst ≡ true
+      → WritesWord inst → HasWordResult inst
   result_word (insts.Bin dst op flags w a b) pairs form call word = AnInt w
   result_word (insts.Cmp dst pred ty a b) pairs form call word = AnInt W1
   result_word (insts.Select dst c ty a b) pairs form call word = word
@@ -121,7 +127,9 @@ module _ (m : ModuleParts) (f : FuncParts) (tables : Tables) (callees : AllByRec
 
   form_of : (inst : Inst) → inst_fits m.types (meanings f) f.ret inst ≡ true → form_fits m.types (meanings f) f.ret inst ≡ true
   form_of inst e =
-      (both_true (list_all (operand_fits m.types (meanings f)) (typed_operands inst) && list_all (names_label (meanings f)) (labels_in inst)) (form_fits m.types (meanings f) f.ret inst) e).1
+      let operands = list_all (operand_fits m.types (meanings f)) (typed_operands inst) in
+      let labels = list_all (names_label (meanings f)) (labels_in inst) in
+      (both_true (operands && labels) (form_fits m.types (meanings f) f.ret inst) e).1
 
   -- ---- functions
 
@@ -131,15 +139,17 @@ module _ (m : ModuleParts) (f : FuncParts) (tables : Tables) (callees : AllByRec
   abbrev AllKeep : List Inst → Type 0
   AllKeep = AllByRecursion (λ (inst : Inst). inst_keeps m inst ≡ true)
 
-  results_words : (body : List Inst) → ArePairs (meanings f) → AllFit body → AllKeep body → AllByRecursion (InstFacts tables) body → AllByRecursion HasWordResult body
+  results_words : (body : List Inst) → ArePairs (meanings f) → AllFit body → AllKeep body → AllByRecursion (InstFacts tables) body
+      → AllByRecursion HasWordResult body
   results_words [] pairs fit keep facts = tt
   results_words (inst ∷ body) pairs fit keep facts =
       (result_word inst pairs (form_of inst fit.0) keep.0 facts.0.written, results_words body pairs fit.1 keep.1 facts.1)
 
-  blocks_words : (blocks : List Block) → ArePairs (meanings f) → AllByRecursion (λ (block : Block). AllFit block.insts) blocks → AllByRecursion (λ (block : Block). AllKeep block.insts) blocks
-      → AllByRecursion (BlockFacts tables) blocks → HaveWordResults blocks
+  blocks_words : (blocks : List Block) → ArePairs (meanings f) → AllByRecursion (λ (block : Block). AllFit block.insts) blocks
+      → AllByRecursion (λ (block : Block). AllKeep block.insts) blocks → AllByRecursion (BlockFacts tables) blocks → HaveWordResults blocks
   blocks_words [] pairs fit keep facts = tt
-  blocks_words (block ∷ blocks) pairs fit keep facts = (results_words block.insts pairs fit.0 keep.0 facts.0.insts, blocks_words blocks pairs fit.1 keep.1 facts.1)
+  blocks_words (block ∷ blocks) pairs fit keep facts =
+      (results_words block.insts pairs fit.0 keep.0 facts.0.insts, blocks_words blocks pairs fit.1 keep.1 facts.1)
 
   body_pairs : (body : List Inst) → AllByRecursion (InstFacts tables) body → ArePairs (filter_map result_of body)
   body_pairs [] facts = tt
@@ -152,7 +162,8 @@ module _ (m : ModuleParts) (f : FuncParts) (tables : Tables) (callees : AllByRec
   blocks_pairs : (blocks : List Block) → AllByRecursion (BlockFacts tables) blocks → ArePairs (flat_map block_meanings blocks)
   blocks_pairs [] facts = tt
   blocks_pairs (block ∷ blocks) facts =
-      all_append (λ entry. IsPairWord entry.1) (block_meanings block) (flat_map block_meanings blocks) (tt, body_pairs block.insts facts.0.insts) (blocks_pairs blocks facts.1)
+      let here = body_pairs block.insts facts.0.insts in
+      all_append (λ entry. IsPairWord entry.1) (block_meanings block) (flat_map block_meanings blocks) (tt, here) (blocks_pairs blocks facts.1)
 
   params_pairs : (params : List (Ty × Loc)) → ArePairs (map param_meaning params)
   params_pairs [] = tt
@@ -160,5 +171,7 @@ module _ (m : ModuleParts) (f : FuncParts) (tables : Tables) (callees : AllByRec
 
   pub have_words : FuncFits m f → FuncFacts tables f → HasWords f
   have_words fits facts =
-      let pairs = all_append (λ entry. IsPairWord entry.1) (map param_meaning f.params) (flat_map block_meanings f.blocks) (params_pairs f.params) (blocks_pairs f.blocks facts.each) in
+      let params = params_pairs f.params in
+      let results = blocks_pairs f.blocks facts.each in
+      let pairs = all_append (λ entry. IsPairWord entry.1) (map param_meaning f.params) (flat_map block_meanings f.blocks) params results in
       record { params = params_words f.params facts.values fits.params; results = blocks_words f.blocks pairs fits.fits fits.calls facts.each }

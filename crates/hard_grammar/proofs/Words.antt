@@ -63,8 +63,8 @@ pub whole : (ty : Ty) (layer : Ty-F Ty) → out-Ty ty ≡ layer → roll-Ty laye
 whole ty layer h = sym (ap roll-Ty h) ∙ roll-out-Ty ty
 
 -- A type is of one word where its layer passes a test that no other layer passes.
-pub word_by : (test : Ty-F Ty → Bool) → test Ty-F.Void ≡ false → ((n : ℕ) (element : Ty) → test (Ty-F.Array n element) ≡ false) → ((parts : List Ty) → test (Ty-F.Struct parts) ≡ false)
-    → ((id : TypeId) → test (Ty-F.Named id) ≡ false) → (ty : Ty) → test (out-Ty ty) ≡ true → OneWord ty
+pub word_by : (test : Ty-F Ty → Bool) → test Ty-F.Void ≡ false → ((n : ℕ) (element : Ty) → test (Ty-F.Array n element) ≡ false)
+    → ((parts : List Ty) → test (Ty-F.Struct parts) ≡ false) → ((id : TypeId) → test (Ty-F.Named id) ≡ false) → (ty : Ty) → test (out-Ty ty) ≡ true → OneWord ty
 unfolding opened.roll-Ty denote.Hole.Carrier.roll
 word_by test void array struct name ty passes = by (out-Ty ty) refl
   where
@@ -129,7 +129,9 @@ pub same_plain_word : (ty own : Ty) → same_ty ty own ≡ true → has_no_parts
 unfolding opened.roll-Ty denote.Hole.Carrier.roll
 same_plain_word ty own same flat some =
     let parts : Ty-F Ty → Ty-F (Ty → Bool) = map-Ty Ty (Ty → Bool) same_ty in
+    let here : Ty-F (Ty → Bool) = parts (out-Ty ty) in
     let none = apart (out-Ty own) flat in
-    let void : same_ty ty types.Void ≡ same_layer (parts (out-Ty ty)) Ty-F.Void = same_by ty types.Void ∙ ap (same_layer (parts (out-Ty ty))) (out-roll-Ty Ty-F.Void) in
-    word_by (λ layer. not (same_layer (parts layer) Ty-F.Void) && same_layer (parts layer) (out-Ty own)) refl (λ n element. none.array n (same_ty element)) (λ fields. none.struct (map same_ty fields)) none.name ty
-    (both (not (same_layer (parts (out-Ty ty)) Ty-F.Void)) (same_layer (parts (out-Ty ty)) (out-Ty own)) (sym (ap not void) ∙ some) (sym (same_by ty own) ∙ same))
+    let void : same_ty ty types.Void ≡ same_layer here Ty-F.Void = same_by ty types.Void ∙ ap (same_layer here) (out-roll-Ty Ty-F.Void) in
+    word_by (λ layer. not (same_layer (parts layer) Ty-F.Void) && same_layer (parts layer) (out-Ty own)) refl
+    (λ n element. none.array n (same_ty element)) (λ fields. none.struct (map same_ty fields)) none.name ty
+    (both (not (same_layer here Ty-F.Void)) (same_layer here (out-Ty own)) (sym (ap not void) ∙ some) (sym (same_by ty own) ∙ same))

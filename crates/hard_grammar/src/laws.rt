@@ -1,10 +1,10 @@
-//! That hardened modules have lines (`specs/Standing.antt`).
+//! That hardened modules have lines (`hard_ir/specs/Standing.antt`).
 ghost use Rattle.ir_core.specs.Module.{ModuleParts};
 ghost use Rattle.ir_parse_top.specs.Text.{IsOfText};
 ghost use Rattle.ir_check.specs.Faults.{IsAccepted};
 ghost use Rattle.hard_ir.specs.Image.{flow_table, check_table};
 ghost use Rattle.hard_ir.specs.Hardened.{hardened_by};
-ghost use Rattle.hard_grammar.specs.Standing.{HasLines};
+ghost use Rattle.hard_ir.specs.Standing.{HasLines};
 
 /// Each function of the hardened module of an accepted module of a text has a block, and a line of hardened text stands for each label,
 /// each phi and each instruction: with masters, shadows and copies, and with checks too.

@@ -1,5 +1,5 @@
-//! The lines of hardened text inside functions (`specs/Lines.antt`), and that each instruction of a hardened module has one
-//! (`specs/Standing.antt`). The function does nothing; its clauses are the law.
+//! That all that stands in the blocks of a hardened module has a line of hardened text (`hard_ir/specs/Lines.antt`, `Standing.antt`),
+//! which the passes stand on. The function does nothing; its clauses are the law.
 #![tactic(auto)]
 
 mod laws;

@@ -16,6 +16,7 @@ use Rattle.hard_ir.specs.declared.instruction.HInst.TheVariants.{Mov, Do}
 use Rattle.hard_ir.specs.declared.instruction.HBlock.{HBlock}
 use Rattle.hard_ir.specs.Hardened.{HardParts}
 use Rattle.hard_ir.specs.Fit.{Fits}
+use Rattle.hard_ir.specs.Standing.{HasLines}
 
 -- ---- facts
 
@@ -29,12 +30,14 @@ IsShort block = length block.list < list_limit
 abbrev pub AreShort : List (List HBlock) → Type 0
 AreShort = All (All IsShort)
 
--- the heads have no blocks, there is one list of blocks a function, no list of instructions is too long, and the module fits
+-- The heads have no blocks, there is one list of blocks a function, no list of instructions is too long, the module fits, and each
+-- function has a block, and lines of hardened text for all that stands in its blocks.
 pub record IsHardened (h : HardParts) : Type 0 where
   pub bare : (n : ℕ) (f : FuncParts) → slice_get h.heads.funcs n ≡ Some f → f.blocks ≡ []
   pub count : length h.funcs ≡ length h.heads.funcs
   pub short : AreShort h.funcs
   pub fits : Fits h
+  pub lines : HasLines h
 
 -- ---- widths
 

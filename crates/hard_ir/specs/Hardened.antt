@@ -1,9 +1,10 @@
 -- What contracts see of a hardened module, and the hardened module of a table.
-use Rattle.std.specs.Prelude.{ℕ, zero, suc, ◌+◌, ◌<◌, ◌^◌, ◌≡◌, Bool, true, false, List, [], ◌∷◌, ◌++◌, map, length}
+use Rattle.std.specs.Prelude.{ℕ, zero, suc, ◌+◌, ◌≡◌, Bool, true, false, List, [], ◌∷◌, ◌++◌, map}
 use Rattle.std.specs.List.{flat_map}
 use Rattle.ir_core.specs.declared.instruction.Block.{Block}
 use Rattle.ir_core.specs.Module.{ModuleParts, FuncParts}
 use Rattle.ir_flow.specs.Edges.{edges_of, is_loop_head}
+use Rattle.ir_parse_top.specs.Text.{IsOfText}
 use Rattle.ir_check.specs.Faults.{IsAccepted}
 use Rattle.hard_ir.specs.declared.instruction.HInst.{HInst}
 use Rattle.hard_ir.specs.declared.instruction.HBlock.{HBlock}
@@ -53,8 +54,9 @@ hard_func table f = hard_blocks table f 0 f.blocks
 abbrev pub hardened_by : Table → ModuleParts → HardParts
 hardened_by table m = record { heads = heads_of m; funcs = map (hard_func table) m.funcs }
 
--- what the columns make of some accepted module
+-- what the columns make of some accepted module of a text
 pub record IsHardenedBy (table : Table) (h : HardParts) : Type 0 where
   pub source : ModuleParts
   pub accepted : IsAccepted source
+  pub of_text : IsOfText source
   pub is : h ≡ hardened_by table source

@@ -2,3 +2,5 @@ pub mod Facts
 pub mod Fit
 pub mod Hardened
 pub mod Image
+pub mod Lines
+pub mod Standing

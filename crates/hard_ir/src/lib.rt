@@ -3,7 +3,8 @@
 //!
 //! What is hardened out of an instruction, its image, and the hardened module of a table are defined in `specs/Image.antt` and
 //! `specs/Hardened.antt`; the passes and the machine above this crate cite them. `Hardened` is a hardened module with its layout and
-//! the widths of its registers; what holds of each one, and how wide its registers are, is in `specs/Facts.antt`.
+//! the widths of its registers; what holds of each one, and how wide its registers are, is in `specs/Facts.antt`. Lines of hardened text
+//! are defined in `specs/Lines.antt`, and which items have one in `specs/Standing.antt`.
 #![tactic(auto)]
 
 mod copying;

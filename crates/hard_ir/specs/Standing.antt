@@ -11,12 +11,12 @@ use Rattle.ir_core.specs.declared.types.Loc.{Loc}
 use Rattle.ir_core.specs.declared.values.Side.{Side}
 use Rattle.ir_core.specs.declared.values.Side.TheVariants.{M}
 use Rattle.ir_core.specs.declared.instruction.Inst.{Inst}
-use Rattle.ir_core.specs.declared.instruction.Inst.TheVariants as insts
 use Rattle.ir_core.specs.Module.{ModuleParts, FuncParts}
 use Rattle.ir_core.specs.Names.{number_given}
 use Rattle.ir_core.specs.Tokens.{IsToken}
 use Rattle.ir_grammar.specs.Parts.{Tok}
 use Rattle.ir_grammar.specs.Fitting.{IsLine}
+use Rattle.ir_check.specs.Blocks.{is_phi}
 use Rattle.ir_numbering.specs.Renaming.{Renaming, renamed_loc, renamed_ty, renamed_val, renamed_inst}
 use Rattle.hard_ir.specs.declared.instruction.HVal.{HVal}
 use Rattle.hard_ir.specs.declared.instruction.HVal.TheVariants as operands
@@ -24,7 +24,8 @@ use Rattle.hard_ir.specs.declared.instruction.HInst.{HInst}
 use Rattle.hard_ir.specs.declared.instruction.HInst.TheVariants.{Chk, ChkMem, Mov, Do}
 use Rattle.hard_ir.specs.declared.instruction.HBlock.{HBlock}
 use Rattle.hard_ir.specs.Hardened.{HardParts}
-use Rattle.hard_grammar.specs.Lines.{registers_of, DoesInst, own_line}
+use Rattle.hard_ir.specs.Fit.{must_retire}
+use Rattle.hard_ir.specs.Lines.{registers_of, DoesInst, own_line}
 
 -- ---- names
 
@@ -89,19 +90,6 @@ pub record HasInstLine (tables : Tables) (side : Side) (inst : Inst) (retires : 
   pub numbered : AreNumbered tables 1 names stands.line
   pub is : inst ≡ renamed_inst names tree
   pub bare : registers_of inst ≡ [] → side ≡ M
-
-abbrev pub is_phi : Inst → Bool
-is_phi (insts.Phi dst ty arms) = true
-is_phi inst = false
-
--- the lines that ask for a `*`
-abbrev pub must_retire : Inst → Bool
-must_retire (insts.Call dst ret callee args) = true
-must_retire (insts.Br to) = true
-must_retire (insts.CondBr cond on_true on_false) = true
-must_retire (insts.Switch ty on default cases) = true
-must_retire (insts.Ret ty val) = true
-must_retire inst = false
 
 -- ---- blocks
 
