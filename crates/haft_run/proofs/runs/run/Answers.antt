@@ -1,8 +1,7 @@
-use Rattle.std.proofs.Common.{ap, sym, ◌∙◌, subst, ◌≡◌}
+use Rattle.std.proofs.Common.{ap, sym, ◌∙◌, subst}
 use Rattle.std.proofs.lemmas.Result.{IfOk-weaker}
 use Rattle.hard_ir.specs.Hardened.{HardParts}
 use Rattle.sched_file.specs.Events.{events_of}
-use Rattle.hard_machine.specs.declared.outcome.RunResult.{RunResult}
 use Rattle.hard_machine.specs.Runs.{run_on}
 use Rattle.hard_simulation.specs.Image.{IsImage}
 use Rattle.hard_simulation.proofs.Hardening.{hardened-is-image}

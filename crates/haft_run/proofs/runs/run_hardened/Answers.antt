@@ -1,11 +1,7 @@
-use Rattle.std.proofs.Common.{List, ap, sym, ◌∙◌}
-use Rattle.std.proofs.lemmas.Result.{IfOk-weaker}
-use Rattle.ir_core.specs.Module.{ModuleParts}
-use Rattle.sched_file.specs.Events.{Happening, events_of}
+use Rattle.std.proofs.Common.{ap, sym, ◌∙◌}
+use Rattle.sched_file.specs.Events.{events_of}
 use Rattle.sched_file.specs.Shown.{shown}
-use Rattle.hard_machine.specs.declared.outcome.RunResult.{RunResult}
 use Rattle.hard_machine.specs.Runs.{run_from, result_of}
-use Rattle.hard_simulation.specs.Meaning.{Means, Told}
 use Rattle.hard_simulation.proofs.Simulation.{told-runs, meant-runs}
 use Rattle.haft_run.proofs.Happenings.{same-program, same-run, still-free, no-upset, still-few}
 use Rattle.haft_run.proofs.runs.run_hardened.Goals as goal
