@@ -11,7 +11,8 @@ use Rattle.sched_file.specs.Schedule.{ScheduleParts, IsSchedule}
 use Rattle.sched_file.specs.Events.{events_of}
 use Rattle.sched_file.proofs.Meanings.{same_meaning}
 use Rattle.sched_file.proofs.SoFar.{not_unfit}
-use Rattle.hard_simulation.specs.Meaning.{IsUpsetFree}
+use Rattle.src_meaning.specs.Races.{IsGood}
+use Rattle.hard_simulation.specs.Meaning.{IsUpsetFree, Means, Told}
 use Rattle.ir_check.specs.Faults.{IsFault}
 use Rattle.ir_check.proofs.OneFault.{fault_excludes}
 use Rattle.haft_cli.specs.declared.command.Command.{Command}
@@ -22,9 +23,23 @@ use Rattle.haft_cli.specs.declared.work.Work.{Work}
 use Rattle.haft_cli.specs.declared.work.Work.TheVariants.{Report, Refused as RefusedWork}
 use Rattle.haft_cli.specs.declared.command.Refusal.{Refusal}
 use Rattle.haft_cli.specs.declared.command.Refusal.TheVariants.{LongFirst, LongSecond, TextWord, TextByte, Module, Schedule, UnbuiltSecond}
-use Rattle.haft_cli.specs.Command.{Checks, Runs, Watches, IsWithin, IsCheckReport, IsRunReport, IsWatchReport, IsRefused, IsTextRefused, run_report, watch_report}
+use Rattle.haft_cli.specs.Command.{Checks, Runs, Watches, IsWithin, IsCheckReport, IsRunReport, IsWatchReport, IsRefused, IsTextRefused, result_on, run_report, watch_report}
 use Rattle.haft_cli.proofs.Files.{for_some}
-use Rattle.haft_cli.specs.Work.{IsWork, AreTold, status_of, text_of}
+use Rattle.haft_cli.specs.Work.{IsRunOf, IsWork, AreTold, status_of, text_of}
+
+-- the report of the run, which tells of the source what it says
+pub record Writes (m : ModuleParts) (s : ScheduleParts) (old new : Option (List ℕ)) : Type 0 where
+  pub written : Puts old (run_report m s) new
+  pub told : Told m s.args (result_on m s)
+  pub means : IsGood m s.args → Means m s.args (result_on m s)
+
+pub Writes-done : (status : Status) (work : Work) (old new : Option (List ℕ)) (rose : Type 0) (m : ModuleParts) (s : ScheduleParts)
+    → ((status ≡ status_of work) × Puts old (text_of work) new) ⊎ ((status ≡ WriteFault) × rose × PutsPart old (text_of work) new)
+    → status ≡ Done → (status_of work ≡ Done → IsRunOf m s work) → Writes m s old new
+Writes-done status work old new rose m s (inl w) done run =
+    let r : IsRunOf m s work = run (sym w.0 ∙ done) in
+    record { written = subst (λ text. Puts old text new) r.text w.1; told = r.told; means = r.means }
+Writes-done status work old new rose m s (inr w) done run = let clash : WriteFault ≡ Done = sym w.0 ∙ done in absurd cc
 
 -- the entries of a schedule are known by its text
 pub same_entries : (text : List ℕ) (s other : ScheduleParts) → IsSchedule text s.args s.lines → IsSchedule text other.args other.lines → s.lines ≡ other.lines

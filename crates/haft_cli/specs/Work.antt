@@ -14,9 +14,11 @@ use Rattle.haft_cli.specs.declared.work.Work.{Work}
 use Rattle.haft_cli.specs.declared.work.Work.TheVariants.{Report, Refused}
 use Rattle.haft_cli.specs.declared.top.Status.{Status}
 use Rattle.haft_cli.specs.declared.top.Status.TheVariants as statuses
-use Rattle.haft_cli.specs.Command.{Checks, IsReport, IsLine, IsWithin, IsRefused, IsTextRefused, ReadsSecond, check_report, run_report, watch_report}
+use Rattle.haft_cli.specs.Command.{Checks, IsReport, IsLine, IsWithin, IsRefused, IsTextRefused, ReadsSecond, check_report, result_on, run_report, watch_report}
 use Rattle.ir_core.specs.Module.{ModuleParts}
 use Rattle.sched_file.specs.Schedule.{ScheduleParts}
+use Rattle.src_meaning.specs.Races.{IsGood}
+use Rattle.hard_simulation.specs.Meaning.{Means, Told}
 
 -- the work is that of these files
 abbrev pub IsWork : Command → Option (List ℕ) → Option (List ℕ) → Work → Type 0
@@ -64,10 +66,12 @@ abbrev pub status_of : Work → Status
 status_of (Report text) = statuses.Done
 status_of (Refused line) = statuses.Refused
 
--- the work is the report of this run
+-- the work is the report of this run, which tells of the source what it says
 pub record IsRunOf (m : ModuleParts) (s : ScheduleParts) (work : Work) : Type 0 where
   pub done : status_of work ≡ statuses.Done
   pub text : text_of work ≡ run_report m s
+  pub told : Told m s.args (result_on m s)
+  pub means : IsGood m s.args → Means m s.args (result_on m s)
 
 -- the work is what `check` tells of this module
 pub record IsCheckOf (m : ModuleParts) (work : Work) : Type 0 where

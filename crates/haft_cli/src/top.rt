@@ -4,7 +4,9 @@ ghost use Rattle.std.specs.Option.{ForSome};
 ghost use Rattle.haft_io.specs.Device.{Rose, Puts, PutsPart, emptied};
 ghost use Rattle.ir_core.specs.Module.{ModuleParts};
 ghost use Rattle.sched_file.specs.Schedule.{ScheduleParts};
-ghost use Rattle.haft_cli.specs.Command.{command_of, IsWithin, IsRefused, Checks, Runs, Watches, check_report, run_report, watch_report};
+ghost use Rattle.src_meaning.specs.Races.{IsGood};
+ghost use Rattle.hard_simulation.specs.Meaning.{Means, Told};
+ghost use Rattle.haft_cli.specs.Command.{command_of, IsWithin, IsRefused, Checks, Runs, Watches, check_report, result_on, run_report, watch_report};
 ghost use Rattle.haft_cli.specs.declared.command.Command.{Command as CommandValue};
 ghost use Rattle.haft_cli.specs.declared.command.Command.TheVariants.{Check, Run, Src};
 ghost use Rattle.haft_cli.specs.declared.command.Refusal.{Refusal};
@@ -97,6 +99,16 @@ pub fn haft<I: Inputs, O: Sink>(
         → I.left inputs.old Which.First ≡ Some first → I.left inputs.old Which.Second ≡ Some second
         → Runs first second m s
         → Puts (O.written out.old) (run_report m s) (O.written out.new) }
+
+    // That run stands for the source run whose turns it tells, or the source is undefined on them.
+    ensures told { (first second : List ℕ) (m : ModuleParts) (s : ScheduleParts) → command_of (map string_bytes words.now) ≡ Some Run → result ≡ Status.Done
+        → I.left inputs.old Which.First ≡ Some first → I.left inputs.old Which.Second ≡ Some second
+        → Runs first second m s → Told m s.args (result_on m s) }
+
+    // So it stands for a source run where the module is good.
+    ensures meaning { (first second : List ℕ) (m : ModuleParts) (s : ScheduleParts) → command_of (map string_bytes words.now) ≡ Some Run → result ≡ Status.Done
+        → I.left inputs.old Which.First ≡ Some first → I.left inputs.old Which.Second ≡ Some second
+        → Runs first second m s → IsGood m s.args → Means m s.args (result_on m s) }
 
     // For an accepted module and a schedule `src` writes exactly the report of the watch.
     ensures watched { (first second : List ℕ) (m : ModuleParts) (s : ScheduleParts) → command_of (map string_bytes words.now) ≡ Some Src → result ≡ Status.Done

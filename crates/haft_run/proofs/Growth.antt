@@ -1,5 +1,5 @@
 -- An event makes one turn of the source's run at most.
-use Rattle.std.proofs.Common.{ℕ, zero, suc, ◌≡◌, ◌+◌, ◌≤◌, ◌==◌, List, [], ◌∷◌, Option, Some, None, Bool, true, false, length, length-append, slice_get, refl, ap, arith}
+use Rattle.std.proofs.Common.{ℕ, zero, suc, ◌+◌, ◌≤◌, ◌==◌, ◌%◌, ◌^◌, List, [], ◌∷◌, Option, Some, None, Bool, true, false, length, length-append, slice_get, arith}
 use Rattle.ir_core.specs.declared.types.Loc.{Loc}
 use Rattle.inst_meaning.specs.Registers.{get}
 use Rattle.sched_file.specs.Events.{Happening, TurnOf, AbortOf, UpsetBy}
@@ -9,74 +9,75 @@ use Rattle.hard_ir.specs.declared.instruction.HInst.{HInst}
 use Rattle.hard_ir.specs.declared.instruction.HInst.TheVariants.{Chk, Mov, Do}
 use Rattle.hard_ir.specs.Hardened.{HardParts}
 use Rattle.hard_machine.specs.declared.outcome.Stop.{Stop}
+use Rattle.hard_machine.specs.declared.outcome.Stop.TheVariants.{End}
 use Rattle.hard_machine.specs.declared.state.Frame.{Frame}
 use Rattle.hard_machine.specs.declared.state.CallStack.{CallStack}
 use Rattle.hard_machine.specs.declared.state.Thread.{Thread}
 use Rattle.hard_machine.specs.declared.state.Thread.TheVariants.{Running, Exiting, Ended}
 use Rattle.hard_machine.specs.State.{ProcessParts, State, inst_at}
-use Rattle.hard_machine.specs.Step.{retired, settled, acted, action_on, destination_on, is_active, agreed, compared, checked, copied, stepped, fetched, exited, turned, unless_stopped}
+use Rattle.hard_machine.specs.Step.{retired, settled, acted, action_on, destination_on, is_active, agreed, compared, checked, copied, stepped, fetched, exited, turned, unless_stopped, stopped, with_thread}
 use Rattle.hard_machine.specs.Runs.{happened}
 
 -- there is one turn more at most
 abbrev OneMore : State → State → Type 0
 OneMore s next = length next.turns ≤ length s.turns + 1
 
-no_more : (s next : State) → next.turns ≡ s.turns → OneMore s next
-no_more s next e = omega (arith, ap (λ (turns : List ℕ). length turns) e)
+none : (turns : List ℕ) → length turns ≤ length turns + 1
+none turns = omega arith
 
-retired-more : (retires : Bool) (t : ℕ) (s next : State) → next.turns ≡ s.turns → OneMore s (retired retires t next)
-retired-more true t s next e = omega (arith, ap (λ (turns : List ℕ). length turns) e, length-append next.turns (t ∷ []))
-retired-more false t s next e = no_more s next e
+retired-more : (retires : Bool) (t : ℕ) (s : State) → length (retired retires t s).turns ≤ length s.turns + 1
+retired-more true t s = omega (arith, length-append s.turns (t ∷ []))
+retired-more false t s = none s.turns
 
 settled-more : (h : HardParts) (s : State) (t : ℕ) (frame : Frame) (retires : Bool) (outcome : ProcessParts × Step) → OneMore s (settled h s t frame retires outcome)
-settled-more h s t frame retires (process, Went) = retired-more retires t s (record s { process = process }) refl
-settled-more h s t frame retires (process, EndsProgram code) = retired-more retires t s _ refl
-settled-more h s t frame retires (process, Undefined cause) = no_more s _ refl
-settled-more h s t frame retires (process, other) = no_more s _ refl
+settled-more h s t frame retires (process, Went) = retired-more retires t (record s { process = process })
+settled-more h s t frame retires (process, EndsProgram code) = retired-more retires t (stopped s (End code))
+settled-more h s t frame retires (process, Undefined cause) = none s.turns
+settled-more h s t frame retires (process, other) = none s.turns
 
 agreed-more : (h : HardParts) (s : State) (t : ℕ) (stack : CallStack) (same : Bool) → OneMore s (agreed h s t stack same)
-agreed-more h s t stack true = no_more s _ refl
-agreed-more h s t stack false = no_more s _ refl
+agreed-more h s t stack true = none s.turns
+agreed-more h s t stack false = none s.turns
 
 compared-more : (h : HardParts) (s : State) (t : ℕ) (stack : CallStack) (master shadow : Option ℕ) → OneMore s (compared h s t stack master shadow)
 compared-more h s t stack (Some a) (Some b) = agreed-more h s t stack (a == b)
-compared-more h s t stack (Some a) None = no_more s _ refl
-compared-more h s t stack None shadow = no_more s _ refl
+compared-more h s t stack (Some a) None = none s.turns
+compared-more h s t stack None shadow = none s.turns
 
 checked-more : (h : HardParts) (s : State) (t : ℕ) (stack : CallStack) (reg : Loc) (active : Bool) → OneMore s (checked h s t stack reg active)
 checked-more h s t stack reg true = compared-more h s t stack (get stack.frame.masters reg.0) (get stack.frame.shadows reg.0)
-checked-more h s t stack reg false = no_more s _ refl
+checked-more h s t stack reg false = none s.turns
 
 copied-more : (h : HardParts) (s : State) (t : ℕ) (stack : CallStack) (reg : Loc) (master : Option ℕ) → OneMore s (copied h s t stack reg master)
-copied-more h s t stack reg (Some n) = no_more s _ refl
-copied-more h s t stack reg None = no_more s _ refl
+copied-more h s t stack reg (Some n) = none s.turns
+copied-more h s t stack reg None = none s.turns
 
 stepped-more : (h : HardParts) (s : State) (t : ℕ) (stack : CallStack) (inst : HInst) → OneMore s (stepped h s t stack inst)
 stepped-more h s t stack (Do side inst retires) =
     settled-more h s t stack.frame retires (acted h s.process t (destination_on side inst) stack (action_on h side stack.frame inst))
 stepped-more h s t stack (Chk when ty reg) = checked-more h s t stack reg (is_active when)
 stepped-more h s t stack (Mov ty reg) = copied-more h s t stack reg (get stack.frame.masters reg.0)
-stepped-more h s t stack other = no_more s _ refl
+stepped-more h s t stack other = none s.turns
 
 fetched-more : (h : HardParts) (s : State) (t : ℕ) (stack : CallStack) (inst : Option HInst) → OneMore s (fetched h s t stack inst)
-fetched-more h s t stack None = no_more s _ refl
+fetched-more h s t stack None = none s.turns
 fetched-more h s t stack (Some inst) = stepped-more h s t stack inst
 
 exited-more : (s : State) (t n : ℕ) → OneMore s (exited s t n)
-exited-more s zero n = retired-more true zero s _ refl
-exited-more s (suc t) n = retired-more true (suc t) s _ refl
+exited-more s zero n = retired-more true zero (stopped s (End (n % 2 ^ 32)))
+exited-more s (suc t) n = retired-more true (suc t) (record s { process = with_thread s.process (suc t) Ended })
 
 turned-more : (h : HardParts) (s : State) (t : ℕ) (thread : Option Thread) → OneMore s (turned h s t thread)
-turned-more h s t None = no_more s _ refl
-turned-more h s t (Some Ended) = no_more s _ refl
+turned-more h s t None = none s.turns
+turned-more h s t (Some Ended) = none s.turns
 turned-more h s t (Some (Exiting n)) = exited-more s t n
 turned-more h s t (Some (Running stack)) = fetched-more h s t stack (inst_at h stack.frame)
 
 unless_stopped-more : (stop : Option Stop) (s next : State) → OneMore s next → OneMore s (unless_stopped stop s next)
 unless_stopped-more None s next more = more
-unless_stopped-more (Some stop) s next more = no_more s _ refl
+unless_stopped-more (Some stop) s next more = none s.turns
 
 pub happened-more : (h : HardParts) (s : State) (event : Happening) → length (happened h s event).turns ≤ length s.turns + 1
 happened-more h s (TurnOf thread) = unless_stopped-more s.stop s (turned h s thread.0 (slice_get s.process.threads thread.0)) (turned-more h s thread.0 (slice_get s.process.threads thread.0))
-happened-more h s (AbortOf thread) = no_more s _ refl
-happened-more h s (UpsetBy upset) = no_more s _ refl
+happened-more h s (AbortOf thread) = none s.turns
+happened-more h s (UpsetBy upset) = none s.turns

@@ -2,15 +2,23 @@ use Rattle.std.proofs.Common.{◌≡◌, subst}
 use Rattle.haft_io.specs.declared.device.Which.TheVariants.{First, Second}
 use Rattle.haft_cli.specs.declared.command.Command.{Command}
 use Rattle.haft_cli.specs.declared.command.Command.TheVariants.{Check, Run, Src}
-use Rattle.haft_cli.specs.Command.{check_report, run_report, watch_report}
+use Rattle.haft_cli.specs.Command.{check_report, watch_report}
 use Rattle.haft_cli.specs.Work.{IsWork}
 use Rattle.haft_cli.proofs.Files.{same_some}
-use Rattle.haft_cli.proofs.Finishes.{text-done, told_refused, refused-done, report-done}
+use Rattle.haft_cli.proofs.Finishes.{Writes-done, text-done, told_refused, refused-done, report-done}
 use Rattle.haft_cli.proofs.top.haft.Goals as goal
 
 pub returns-in-Ok-clause-exact : goal.returns-in-Ok-clause-exact
 returns-in-Ok-clause-exact g c = λ first second m s words done told_first told_second runs.
-    text-done c.finish.result c.in-Ok.work _ _ _ (run_report m s) c.finish.ensures.cases done (λ is_done. (c.in-Ok.ensures.run_exact first second m s (same_some c.in-Some.command Run _ c.in-Some.ensures words) told_first told_second runs is_done).text)
+    (Writes-done c.finish.result c.in-Ok.work _ _ _ m s c.finish.ensures.cases done (c.in-Ok.ensures.run_exact first second m s (same_some c.in-Some.command Run _ c.in-Some.ensures words) told_first told_second runs)).written
+
+pub returns-in-Ok-clause-told : goal.returns-in-Ok-clause-told
+returns-in-Ok-clause-told g c = λ first second m s words done told_first told_second runs.
+    (Writes-done c.finish.result c.in-Ok.work _ _ _ m s c.finish.ensures.cases done (c.in-Ok.ensures.run_exact first second m s (same_some c.in-Some.command Run _ c.in-Some.ensures words) told_first told_second runs)).told
+
+pub returns-in-Ok-clause-meaning : goal.returns-in-Ok-clause-meaning
+returns-in-Ok-clause-meaning g c = λ first second m s words done told_first told_second runs good.
+    (Writes-done c.finish.result c.in-Ok.work _ _ _ m s c.finish.ensures.cases done (c.in-Ok.ensures.run_exact first second m s (same_some c.in-Some.command Run _ c.in-Some.ensures words) told_first told_second runs)).means good
 
 pub returns-in-Ok-clause-checked : goal.returns-in-Ok-clause-checked
 returns-in-Ok-clause-checked g c = λ first m words done told checks.
