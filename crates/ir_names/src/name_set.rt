@@ -4,6 +4,7 @@ ghost use Rattle.ir_lines.specs.declared.site.Named as named;
 ghost use Rattle.ir_names.specs.Names.{same_name};
 ghost use Rattle.ir_names.specs.Sets.{has_name};
 
+use crate::loc_set::LocSet;
 use ir_lines::Named;
 use std::alloc::{AllocError, Global};
 use std::collections::HashSet;
@@ -13,7 +14,7 @@ use std::collections::HashSet;
 pub(crate) struct NameSet {
     types: HashSet<u32>,
     syms: HashSet<u32>,
-    locs: HashSet<(usize, u32)>,
+    locs: LocSet,
 }
 
 impl NameSet {
@@ -24,7 +25,7 @@ impl NameSet {
         NameSet {
             types: HashSet::new(alloc),
             syms: HashSet::new(alloc),
-            locs: HashSet::new(alloc),
+            locs: LocSet::new(alloc),
         }
     }
 
@@ -37,7 +38,7 @@ impl NameSet {
         match name {
             Named::Type(id) => Ok(self.types.insert(id.0)?),
             Named::Sym(sym) => Ok(self.syms.insert(sym.0)?),
-            Named::Loc { func, at } => Ok(self.locs.insert((func, at.0))?),
+            Named::Loc { func, at } => Ok(self.locs.insert(func, at)?),
         }
     }
 
@@ -48,7 +49,7 @@ impl NameSet {
         match name {
             Named::Type(id) => self.types.contains(&id.0),
             Named::Sym(sym) => self.syms.contains(&sym.0),
-            Named::Loc { func, at } => self.locs.contains(&(func, at.0)),
+            Named::Loc { func, at } => self.locs.has(func, at),
         }
     }
 }
