@@ -1,7 +1,7 @@
 //! A table of entries under `%` names, of which the first of a name counts (`specs/Firsts.antt`).
 ghost use Rattle.std.specs.Prelude.{◌≡◌, ◌<◌, ℕ, Some, None, false, length, nat_eq, slice_index_or, IfOk, OnOk};
 ghost use Rattle.std.specs.Option.{option_copied};
-ghost use Rattle.ir_types.specs.Firsts.{first_of, ArePlaced};
+ghost use Rattle.ir_types.specs.Firsts.{first_of, AreListed};
 
 use ir_core::Loc;
 use std::alloc::{AllocError, Global};
@@ -20,11 +20,11 @@ impl<T> Model for Firsts<T> {
 
     ghost Value = { List (Loc × T) };
 
-    ghost use Rattle.ir_types.specs.Firsts.{ArePlaced};
+    ghost use Rattle.ir_types.specs.Firsts.{AreListed};
 
     ghost view = { λ f. f.entries.items };
 
-    ghost invariant = { λ f. ArePlaced f.entries.items f.places.items };
+    ghost invariant = { λ f. AreListed f.entries.items f.places.items };
 }
 
 // The place under a number.
@@ -63,7 +63,7 @@ fn put_place(places: &mut Vec<Option<usize>>, number: u32, place: usize) -> Resu
 
 // The place of the first entry of each name. From the last entry on, so that an earlier one takes the place of a later one.
 fn places_of<T>(alloc: Global, entries: &[(Loc, T)]) -> Result<Vec<Option<usize>>, AllocError>
-    ensures { IfOk result (λ places. ArePlaced entries.now places.items) }
+    ensures { IfOk result (λ places. AreListed entries.now places.items) }
 {
     let mut places = Vec::new(alloc);
     let mut left = entries.len();
