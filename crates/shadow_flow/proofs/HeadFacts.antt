@@ -1,8 +1,8 @@
 -- The heads of an accepted module of a text, with short lists of instructions, make a hardened module.
-use Rattle.std.proofs.Common.{◌≡◌, ℕ, List, [], ◌∷◌, map, Option, Some, None, slice_get, refl, sym, subst, ap, ◌∙◌}
+use Rattle.std.proofs.Common.{◌≡◌, ℕ, List, [], map, Option, Some, None, slice_get, sym, subst, ap, ◌∙◌}
 use Rattle.std.proofs.lemmas.List.{length-map}
 use Rattle.std.proofs.lemmas.Option.{slice_get-map}
-use Rattle.std.specs.Option.{option_map, option_or}
+use Rattle.std.specs.Option.{option_map}
 use Rattle.ir_core.specs.Module.{FuncParts, ModuleParts}
 use Rattle.ir_parse_top.specs.Text.{IsOfText}
 use Rattle.ir_check.specs.Faults.{IsAccepted}
