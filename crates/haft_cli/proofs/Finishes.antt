@@ -1,5 +1,5 @@
 -- What was written where the call ended with Done.
-use Rattle.std.proofs.Common.{ℕ, ◌≡◌, ◌⊎◌, inl, inr, List, Option, Some, Result, Ok, Err, IfOk, refl, arith, sym, ◌∙◌, subst}
+use Rattle.std.proofs.Common.{ℕ, ◌≡◌, ◌⊎◌, inl, inr, List, Option, Some, Result, IfOk, refl, arith, sym, ◌∙◌, subst}
 use Rattle.haft_io.specs.Device.{Puts, PutsPart}
 use Rattle.haft_io.specs.declared.device.Which.{Which}
 use Rattle.haft_io.specs.declared.device.Which.TheVariants.{First, Second}

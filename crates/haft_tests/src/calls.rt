@@ -36,11 +36,7 @@ const COUNTING: &str = "turn 0 200\nturn 1 3000\nturn 2 3000\nturn 0 200\n";
 
 /// Modules of several blocks, schedules, and the reports.
 const RUNS: &[(&str, &str, &str)] = &[
-    (
-        TWO_BLOCKS,
-        TURNS,
-        "aborts 0 0 0 0\nstop end 0\nsrc 0*3\n",
-    ),
+    (TWO_BLOCKS, TURNS, "aborts 0 0 0 0\nstop end 0\nsrc 0*3\n"),
     // A thread takes 5 steps of the source before its loop, 13 in each of 10 rounds, and 5 from the last test to its exit;
     // `main` takes 7 before it first waits, and 8 behind that.
     (
@@ -84,11 +80,7 @@ const REFUSALS: &[(&str, &str, &str)] = &[
     (BAD_BYTE, "turn 64 1\n", "refused text 4 byte 27\n"),
     ("", "upset 0 0 m.a 1\n", "refused module NoMain -\n"),
     (TWO_BLOCKS, "turn 64 1\n", "refused schedule 1\n"),
-    (
-        TWO_BLOCKS,
-        "upset 0 0 m.a 1\n",
-        "refused unbuilt second\n",
-    ),
+    (TWO_BLOCKS, "upset 0 0 m.a 1\n", "refused unbuilt second\n"),
     (SUM, "upset 0 0 m.a 1\nturn 64 1\n", "refused schedule 2\n"),
 ];
 
