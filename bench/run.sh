@@ -39,10 +39,13 @@ def run(command, report):
 
 
 def steps_of(report):
-    """How many steps of the source a report tells."""
-    with open(report) as file:
-        *_, source = file
-    return sum(int(run.split("*")[1]) for run in source.split()[1:])
+    """How many steps of the source a report tells. It is read piece by piece: the memory of the next run counts from this process's."""
+    steps, rest = 0, b""
+    with open(report, "rb") as file:
+        while piece := file.read(1 << 16):
+            *runs, rest = (rest + piece).split(b" ")
+            steps += sum(int(run.partition(b"*")[2]) for run in runs if b"*" in run)
+    return steps + int(rest.partition(b"*")[2] or 0)
 
 
 with tempfile.TemporaryDirectory() as work:
