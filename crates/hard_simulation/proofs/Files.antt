@@ -43,14 +43,8 @@ pub record AreFresh (regs : List (Ty × Loc)) (a b : List (Option ℕ)) : Type 0
   pub same : (at : ℕ) → is_among at regs ≡ true → get a at ≡ get b at
   pub given : (at : ℕ) → is_among at regs ≡ true → is_some (get b at) ≡ true
 
-pub all-but-none : (a b : List (Option ℕ)) → Agree a b → AgreeBut [] a b
-all-but-none a b h = record { but = λ at n. h.same at }
-
 pub but-none : (a b : List (Option ℕ)) → AgreeBut [] a b → Agree a b
 but-none a b h = record { same = λ at. h.but at refl }
-
-pub none-fresh : (a b : List (Option ℕ)) → AreFresh [] a b
-none-fresh a b = record { same = λ at e. cc; given = λ at e. cc }
 
 among-rest : (b rest : Bool) → rest ≡ true → (b || rest) ≡ true
 among-rest true rest e = refl

@@ -208,10 +208,6 @@ pub unflagged-destination : (inst : Inst) → destination (unflagged inst) ≡ d
 unflagged-destination (insts.Bin dst op flags w a b) = refl
 unflagged-destination inst = refl
 
-pub unflagged-single : (inst : Inst) → is_doubled inst ≡ false → unflagged inst ≡ inst
-unflagged-single (insts.Bin dst op flags w a b) single = absurd cc
-unflagged-single inst single = refl
-
 -- ---- images
 
 pub flow-doubled : (inst : Inst) → is_doubled inst ≡ true → flow inst ≡ Do M (unflagged inst) false ∷ Do S (unflagged inst) true ∷ []
@@ -245,19 +241,6 @@ phi-flow inst phi = absurd cc
 pub phi-checked : (inst : Inst) → is_phi inst ≡ true → checked inst ≡ []
 phi-checked (insts.Phi dst ty arms) phi = refl
 phi-checked inst phi = absurd cc
-
-pub doubled-no-phi : (inst : Inst) → is_doubled inst ≡ true → is_phi inst ≡ false
-doubled-no-phi (insts.Phi dst ty arms) doubled = absurd cc
-doubled-no-phi inst doubled = refl
-
-pub doubled-unchecked : (inst : Inst) → is_doubled inst ≡ true → checked inst ≡ []
-doubled-unchecked (insts.Bin dst op flags w a b) doubled = refl
-doubled-unchecked (insts.Cmp dst pred ty a b) doubled = refl
-doubled-unchecked (insts.Select dst condition ty a b) doubled = refl
-doubled-unchecked (insts.Cast dst op from a to) doubled = refl
-doubled-unchecked (insts.Gep dst base ptr index) doubled = refl
-doubled-unchecked (insts.Extract dst elem pair index) doubled = refl
-doubled-unchecked inst doubled = absurd cc
 
 -- ---- what is checked is read
 

@@ -39,15 +39,6 @@ pub hurt-if : (sides : Sides) (side : Side) (P : Type 0) → On sides side P →
 hurt-if Both side P p n = absurd (n p)
 hurt-if (Alone side) other P p n = tt
 
--- a side is known, or some side is hurt
-pub data Known (sides : Sides) (P : Type 0) : Type 0 where
-  Is : P → Known sides P
-  Hurt : IsHurt sides → Known sides P
-
-pub known-on : (sides : Sides) (side : Side) (P : Type 0) → On sides side P → Known sides P
-known-on Both side P p = Is p
-known-on (Alone side) other P p = Hurt tt
-
 -- what holds of two sides that are equal in it holds of the master, whichever is known
 pub either-on : (sides : Sides) (P Q : Type 0) → On sides M P → On sides S Q → (Q → P) → P
 either-on Both P Q p q f = p

@@ -1,5 +1,5 @@
 -- The turns of a run of the hardened machine, event by event; and runs of the source on turns one behind another.
-use Rattle.std.proofs.Common.{ℕ, zero, suc, ◌≡◌, ◌∙◌, Bool, true, false, List, [], ◌∷◌, ◌++◌, length, Option, Some, None, refl, ap, sym, subst, slice_get, append-nil, append_assoc}
+use Rattle.std.proofs.Common.{ℕ, zero, suc, ◌≡◌, ◌∙◌, Bool, true, false, List, [], ◌∷◌, ◌++◌, length, Option, Some, None, refl, ap, sym, slice_get, append-nil, append_assoc}
 use Rattle.ir_core.specs.declared.types.Loc.{Loc}
 use Rattle.ir_core.specs.Module.{ModuleParts}
 use Rattle.inst_meaning.specs.declared.actions.Cause.{Cause}
@@ -170,12 +170,6 @@ went-front (Ended code ∷ answer ∷ front) rest went = absurd cc
 went-front (Waits ∷ front) rest went = absurd went
 went-front (Idle ∷ front) rest went = absurd went
 went-front (Undefined cause ∷ front) rest went = absurd went
-
-pub run-went-front : (m : ModuleParts) (arguments front rest : List ℕ) → AllWent (source m arguments (front ++ rest)).answers
-    → AllWent (source m arguments front).answers
-run-went-front m arguments front rest went =
-    let then_on = (run_from m (source m arguments front).state rest).answers in
-    went-front (source m arguments front).answers then_on (subst AllWent (answers-append m (opening m arguments) front rest) went)
 
 -- ---- undefined steps
 
