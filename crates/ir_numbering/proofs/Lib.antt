@@ -1,7 +1,7 @@
 mod Adding
+mod Closed
 pub mod Lacking
 pub mod TakenNames
 pub mod Kept
 pub mod Results
-pub mod Filling
 pub mod Filled

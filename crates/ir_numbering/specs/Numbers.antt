@@ -1,13 +1,13 @@
 -- Name tables over a text: the tables once they have the names at places, and what becomes of places.
-use Rattle.std.specs.Prelude.{ℕ, ◌≡◌, ◌+◌, ◌<◌, List, [], ◌∷◌, ◌++◌, length, take, map, fold}
-use Rattle.std.specs.List.{flat_map}
+use Rattle.std.specs.Prelude.{ℕ, ◌≡◌, ◌+◌, ◌<◌, Bool, true, nat_lt, List, [], ◌∷◌, ◌++◌, length, take, map, fold}
+use Rattle.std.specs.List.{flat_map, list_all}
 use Rattle.ir_core.specs.declared.types.Ty.{Ty}
 use Rattle.ir_core.specs.declared.types.TypeId.{TypeId}
 use Rattle.ir_core.specs.Module.{ModuleParts, FuncParts, empty_module}
 use Rattle.ir_core.specs.Names.{number_given, numbered}
 use Rattle.ir_core.specs.TokenLengths.{name_from}
-use Rattle.ir_numbering.specs.Renaming.{Renaming, renamed_type_id, renamed_ty, renamed_global, renamed_declare, renamed_func}
-use Rattle.ir_numbering.specs.Places.{places_of_ty, places_of_global, places_of_declare, places_of_func}
+use Rattle.ir_numbering.specs.Renaming.{Renaming, renamed_type_id, renamed_ty, renamed_global, renamed_declare, renamed_param, renamed_block, renamed_func}
+use Rattle.ir_numbering.specs.Places.{places_of_ty, places_of_global, places_of_declare, mentions_of_func, places_of_func}
 use Rattle.ir_numbering.specs.declared.places.Place.{Place}
 use Rattle.ir_numbering.specs.declared.places.Place.TheVariants.{Local, Struct, Global}
 
@@ -82,11 +82,32 @@ renaming_outside text m = record {
   sym = λ at. number_given m.syms (name_from text at);
 }
 
+-- a function whose table takes the names at the places, and which then takes the parameters and the blocks of a tree
+abbrev pub filled_by : List ℕ → ModuleParts → FuncParts → List Place → FuncParts → FuncParts
+filled_by text m tree places f =
+    let named = func_with text places f in
+    let r = renaming_of text m named in
+    record named { params = named.params ++ map (renamed_param r) tree.params; blocks = named.blocks ++ map (renamed_block r) tree.blocks }
+
+-- a function by a table of the names at the places
+abbrev pub numbered_by : List ℕ → ModuleParts → List Place → FuncParts → FuncParts
+numbered_by text m places f =
+    let names = with_names [] (locals_at text places) in
+    record (renamed_func (renaming_of text m (record f { names = names })) f) { names = names }
+
 -- a function whose registers and labels are numbered by the places of its own tree
 abbrev pub numbered_func : List ℕ → ModuleParts → FuncParts → FuncParts
-numbered_func text m f =
-    let names = with_names [] (locals_at text (places_of_func f)) in
-    record (renamed_func (renaming_of text m (record f { names = names })) f) { names = names }
+numbered_func text m f = numbered_by text m (places_of_func f) f
+
+-- whether the number of a register or a label is below
+abbrev pub is_below : ℕ → Place → Bool
+is_below count (Local at) = nat_lt at.0 count
+is_below count (Struct id) = true
+is_below count (Global sym) = true
+
+-- whether a function's table has each register and label that it mentions
+abbrev pub is_closed : FuncParts → Bool
+is_closed f = list_all (is_below (length f.names)) (mentions_of_func f)
 
 -- ---- whole modules
 

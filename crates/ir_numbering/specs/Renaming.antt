@@ -35,17 +35,17 @@ renamed_type_id r id = record { 0 = r.type_id id.0 }
 abbrev pub renamed_sym : Renaming → Sym → Sym
 renamed_sym r sym = record { 0 = r.sym sym.0 }
 
--- one layer of a type, its parts renamed already
-abbrev pub renamed_step : Renaming → Ty-F Ty → Ty
-renamed_step r Ty-F.Void = types.Void
-renamed_step r (Ty-F.Int width) = types.Int width
-renamed_step r Ty-F.Ptr = types.Ptr
-renamed_step r (Ty-F.Array count element) = types.Array count element
-renamed_step r (Ty-F.Struct parts) = types.Struct parts
-renamed_step r (Ty-F.Named id) = types.Named (renamed_type_id r id)
+-- one layer of a type, its parts renamed already; no names of other kinds stand in a type
+abbrev pub renamed_step : (ℕ → ℕ) → Ty-F Ty → Ty
+renamed_step type_id Ty-F.Void = types.Void
+renamed_step type_id (Ty-F.Int width) = types.Int width
+renamed_step type_id Ty-F.Ptr = types.Ptr
+renamed_step type_id (Ty-F.Array count element) = types.Array count element
+renamed_step type_id (Ty-F.Struct parts) = types.Struct parts
+renamed_step type_id (Ty-F.Named id) = types.Named (record { 0 = type_id id.0 })
 
 abbrev pub renamed_ty : Renaming → Ty → Ty
-renamed_ty r = fold-Ty Ty (renamed_step r)
+renamed_ty r = fold-Ty Ty (renamed_step r.type_id)
 
 abbrev pub renamed_gep : Renaming → ConstGep → ConstGep
 renamed_gep r gep = record gep { base = renamed_ty r gep.base; sym = renamed_sym r gep.sym }

@@ -21,8 +21,9 @@ mod trees;
 mod values;
 mod whole;
 
+pub use functions::numbered_func;
 pub use laws::{numbers_stay, only_tables_change, places_are_numbered};
-pub use numbering::{add_names, numbered, numbered_func, numbered_outside, places_of};
+pub use numbering::{add_names, numbered, numbered_outside, places_of};
 pub use numbers::{Numbers, name_at};
 pub use places::{Place, Places};
 pub use tables::{

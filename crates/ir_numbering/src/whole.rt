@@ -1,17 +1,30 @@
 //! Whole modules.
 ghost use Rattle.std.specs.Prelude.{◌≡◌, ◌++◌, map, IfOk, OnOk};
+ghost use Rattle.std.specs.List.{flat_map};
 ghost use Rattle.ir_core.specs.Module.{empty_module};
+ghost use Rattle.ir_numbering.specs.Places.{places_of_func};
 ghost use Rattle.ir_numbering.specs.Renaming.{renamed_global, renamed_declare};
 ghost use Rattle.ir_numbering.specs.Numbers.{renaming_outside, module_with, numbered_func, places_of_module, renamed_named, parts_by, numbered_module};
 
+use crate::functions::{add_places_of_func, numbered_func};
 use crate::numbering::renamed_outside;
 use crate::tables::{has_room, number_in_module};
 use crate::trees::add_all;
-use crate::{Places, numbered_func};
+use crate::Places;
 use ir_core::{Declare, Func, GlobalVar, Module, Seq, Ty, TypeId};
 use std::alloc::{AllocError, Global};
 
-/// The places of a module's names, in the order in which they are numbered.
+// Adds the places of functions.
+fn add_all_funcs(funcs: &[Func], list: &mut Places) -> Result<(), AllocError>
+    ensures { OnOk result (list.new ≡ list.old ++ flat_map places_of_func funcs.now) }
+{
+    for func in funcs {
+        add_places_of_func(func, list)?;
+    }
+    Ok(())
+}
+
+// The places of a module's names, in the order in which they are numbered.
 fn places_of_module(tree: &Module, alloc: Global) -> Result<Places, AllocError>
     ensures { IfOk result (λ places. places ≡ places_of_module tree.now) }
 {
@@ -19,7 +32,7 @@ fn places_of_module(tree: &Module, alloc: Global) -> Result<Places, AllocError>
     add_all(tree.types(), &mut places)?;
     add_all(tree.globals(), &mut places)?;
     add_all(tree.declares(), &mut places)?;
-    add_all(tree.funcs(), &mut places)?;
+    add_all_funcs(tree.funcs(), &mut places)?;
     Ok(places)
 }
 

@@ -5,5 +5,5 @@ use Rattle.ir_numbering.proofs.functions.fill_block.Given as goal
 
 abbrev pub invariant-loop-inst : goal.invariant-loop-inst
 invariant-loop-inst l =
-    let r = renaming_of l.numbers.text.now l.numbers.in_module.now l.numbers.in_func.now in
+    let r = renaming_of l.text l.m l.fn.f in
     l.f ≡ record l.fn.f { blocks = l.fn.f.blocks ++ record { label = renamed_loc r l.block.label; insts = map (renamed_inst r) (take l.inst-index l.inst-items) } ∷ [] }
