@@ -91,13 +91,13 @@ word_kind APtr = refl
 
 pub word_renamed : {ty : Ty} (one : OneWord ty) (names : Renaming) → renamed_ty names ty ≡ ty
 unfolding opened.roll-Ty denote.Hole.Carrier.roll
-word_renamed (AnInt w) names = fold-roll-Ty Ty (renamed_step names) (Ty-F.Int w)
-word_renamed APtr names = fold-roll-Ty Ty (renamed_step names) Ty-F.Ptr
+word_renamed (AnInt w) names = fold-roll-Ty Ty (renamed_step names.type_id) (Ty-F.Int w)
+word_renamed APtr names = fold-roll-Ty Ty (renamed_step names.type_id) Ty-F.Ptr
 
 pair_renamed : {ty : Ty} (one : OneWord ty) (names : Renaming) → renamed_ty names (pair_of ty) ≡ pair_of ty
 unfolding opened.roll-Ty denote.Hole.Carrier.roll
 pair_renamed {ty} one names =
-    let parts : renamed_ty names (pair_of ty) ≡ types.Struct (renamed_ty names ty ∷ renamed_ty names (types.Int W1) ∷ []) = fold-roll-Ty Ty (renamed_step names) (Ty-F.Struct (ty ∷ types.Int W1 ∷ [])) in
+    let parts : renamed_ty names (pair_of ty) ≡ types.Struct (renamed_ty names ty ∷ renamed_ty names (types.Int W1) ∷ []) = fold-roll-Ty Ty (renamed_step names.type_id) (Ty-F.Struct (ty ∷ types.Int W1 ∷ [])) in
     parts ∙ ap (λ (t : Ty). types.Struct (t ∷ renamed_ty names (types.Int W1) ∷ [])) (word_renamed one names) ∙ ap (λ (t : Ty). types.Struct (ty ∷ t ∷ [])) (word_renamed (AnInt W1) names)
 
 abbrev pair_tokens : List ℕ → List Tok

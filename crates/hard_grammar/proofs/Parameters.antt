@@ -57,10 +57,10 @@ pub not_void_renamed : (r : Renaming) (ty : Ty) → NotVoid ty → NotVoid (rena
 unfolding opened.roll-Ty denote.Hole.Carrier.roll
 not_void_renamed r ty some = by (out-Ty ty) refl
   where
-    again : (layer : Ty-F Ty) → out-Ty ty ≡ layer → renamed_ty r ty ≡ renamed_step r (map-Ty Ty Ty (renamed_ty r) layer)
+    again : (layer : Ty-F Ty) → out-Ty ty ≡ layer → renamed_ty r ty ≡ renamed_step r.type_id (map-Ty Ty Ty (renamed_ty r) layer)
     again layer h =
-        ap (renamed_ty r) (sym (roll-out-Ty ty)) ∙ fold-roll-Ty Ty (renamed_step r) (out-Ty ty)
-        ∙ ap (λ (l : Ty-F Ty). renamed_step r (map-Ty Ty Ty (renamed_ty r) l)) h
+        ap (renamed_ty r) (sym (roll-out-Ty ty)) ∙ fold-roll-Ty Ty (renamed_step r.type_id) (out-Ty ty)
+        ∙ ap (λ (l : Ty-F Ty). renamed_step r.type_id (map-Ty Ty Ty (renamed_ty r) l)) h
 
     by : (layer : Ty-F Ty) → out-Ty ty ≡ layer → NotVoid (renamed_ty r ty)
     by Ty-F.Void h = absurd (let clash : true ≡ false = sym (ap is_void_step h) ∙ some in cc)

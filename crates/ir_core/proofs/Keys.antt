@@ -1,5 +1,5 @@
 -- What the calls of a set of keys say of the list of the keys' bytes.
-use Rattle.std.proofs.Common.{◌<◌, get_or, take, slice_get, ◌≡◌, ℕ, Bool, true, false, cond, not, if◌then◌else◌, List, [], ◌∷◌, ◌++◌, length, map, Option, Some, None, position, ◌+◌, ◌||◌, ap, sym, refl, ◌∙◌, nat_lt, arith}
+use Rattle.std.proofs.Common.{◌<◌, get_or, take, slice_get, ◌≡◌, ℕ, Bool, true, false, cond, not, if◌then◌else◌, List, [], ◌∷◌, ◌++◌, map, Option, Some, position, ◌+◌, ◌||◌, ap, sym, refl, ◌∙◌, arith}
 use Rattle.std.proofs.lemmas.Cmp.{nat_list_eq_equiv}
 use Rattle.std.proofs.lemmas.List.{get_or-take, length-map, length-take, map-append, take_more}
 use Rattle.std.proofs.lemmas.List.Folds.{list_any_none}
@@ -36,26 +36,11 @@ module _ {K X : Type 0} (f : K → X) where
   map-insert true ks k = refl
   map-insert false ks k = map-append f ks (k ∷ [])
 
--- the place that `position` gives is the first
-pub position_or_len-from_position : {X : Type 0} (p : X → Bool) (xs : List X) (i : ℕ) → position p xs ≡ Some i → i ≡ position_or_len p xs
-position_or_len-from_position p xs i = by (nat_lt (position_or_len p xs) (length xs)) (position_or_len p xs)
-  where
-    by : (b : Bool) (n : ℕ) → cond b (Some n) None ≡ Some i → i ≡ n
-    by true n e = cc
-    by false n e = absurd cc
-
 -- a table whose keys are ks, each with the bytes that f gives
 module _ {K : Type 0} (f : K → List ℕ) (ks : List K) (names : List (List ℕ)) (name : List ℕ) (view : map f ks ≡ names) where
   -- what a look-up finds
   pub number_of-keys : (r : Option ℕ) → r ≡ position (λ k. bytes_eq name (f k)) ks → r ≡ number_of names name
   number_of-keys r e = e ∙ sym (position-map f (bytes_eq name) ks) ∙ ap (λ l. number_of l name) view
-
-  -- a name that is found has its number, and the table stays
-  pub number_given-found : (i : ℕ) → Some i ≡ position (λ k. bytes_eq name (f k)) ks → i ≡ number_given names name
-  number_given-found i e = position_or_len-from_position (bytes_eq name) names i (sym (number_of-keys (Some i) e))
-
-  pub numbered-found : true ≡ list_any (λ k. bytes_eq name (f k)) ks → names ≡ numbered names name
-  numbered-found e = ap (λ b. if b then names else names ++ name ∷ []) (e ∙ sym (list_any-map f (bytes_eq name) ks) ∙ ap (list_any (bytes_eq name)) view)
 
   -- what an insert of a key with the name's bytes gives, and leaves
   module _ (key : K) (same : f key ≡ name) where

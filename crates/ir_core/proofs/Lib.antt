@@ -1,5 +1,5 @@
 pub mod Blocks
-mod Keys
+pub mod Keys
 pub mod Numbering
 pub mod Lengths
 pub mod Found

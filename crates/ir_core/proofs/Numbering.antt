@@ -20,7 +20,8 @@ module _ (names : List (List ℕ)) (name : List ℕ) where
   passes : number_given names name < length names → bytes_eq name (get_or names (number_given names name) []) ≡ true
   passes h = passes_at_first (bytes_eq name) names [] h
 
-  numbered-known : number_given names name < length names → numbered names name ≡ names
+  -- a name that the table has changes nothing
+  pub numbered-known : number_given names name < length names → numbered names name ≡ names
   numbered-known h = ap (λ b. if b then names else names ++ name ∷ []) (list_any_at (bytes_eq name) names (number_given names name) [] h (passes h))
 
   lacks : length names ≤ number_given names name → list_any (bytes_eq name) names ≡ false

@@ -1,11 +1,11 @@
 -- The tokens of a line lie within it, and are no more than its bytes.
-use Rattle.std.proofs.Common.{ℕ, suc, ◌≡◌, ◌+◌, ◌<◌, ◌≤◌, ◌⊎◌, Bool, true, false, IsTrue, List, [], ◌∷◌, ◌++◌, length, drop, codes, refl, sym, ap, ⊎_elim, arith, length-append}
+use Rattle.std.proofs.Common.{ℕ, ◌≡◌, ◌+◌, ◌<◌, ◌≤◌, Bool, true, false, IsTrue, List, [], ◌∷◌, ◌++◌, length, drop, codes, ap, ⊎_elim, arith, length-append}
 use Rattle.std.proofs.lemmas.List.{length-drop}
 use Rattle.std.specs.List.{AllByRecursion}
 use Rattle.ir_core.specs.declared.text.TokKind.{TokKind}
 use Rattle.ir_core.specs.declared.text.TokKind.TheVariants.{Word, Local, At, Label, Num, Bytes, Str, Hash, Bang, Punct}
 use Rattle.ir_core.specs.declared.text.Token.{Token}
-use Rattle.ir_core.specs.Tokens.{is_word, is_digits, is_one_punct, Behind, Before, Quoted, IsToken, Over, Gap, place_of, Tokens, Ends, Passes, Takes, IsWithin, AreWithin}
+use Rattle.ir_core.specs.Tokens.{is_word, is_digits, is_one_punct, IsToken, Over, Gap, place_of, Tokens, Ends, Passes, Takes, IsWithin, AreWithin}
 
 word_some : (text : List ℕ) → IsTrue (is_word text) → 0 < length text
 word_some [] h = absurd cc

@@ -5,6 +5,9 @@ use std::alloc::{AllocError, Global};
 use std::marker::Model;
 
 /// A `Vec` that contracts see as the list of its items, so that a copy equals its source.
+///
+/// Its room grows from one item to twice as many at a time. A tree has lists of one item by the hundred thousand, as the
+/// parts of a struct, and a `Vec` by itself begins with room for four.
 #[derive(Drop)]
 pub struct Seq<T> {
     items: Vec<T>,
@@ -52,6 +55,10 @@ impl<T: Drop> Seq<T> {
         ensures ok { OnOk result (self.new ≡ self.old ++ item ∷ []) }
         ensures err { OnErr result (self.new ≡ self.old) }
     {
+        let count = self.items.len();
+        if count == self.items.capacity() {
+            self.items.reserve_exact(count.max(1))?;
+        }
         self.items.push(item)?;
         Ok(())
     }

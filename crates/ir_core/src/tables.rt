@@ -55,9 +55,6 @@ impl Names {
         ensures ok { OnOk result (self.new ≡ numbered self.old name.now) }
         ensures err { OnErr result (self.new ≡ self.old) }
     {
-        if let Some(at) = self.set.get_index_of(name) {
-            return Ok(at as u32);
-        }
         let alloc = *self.set.allocator();
         let key = Vec::from_slice(alloc, name)?;
         let (at, _) = self.set.insert_full(key)?;

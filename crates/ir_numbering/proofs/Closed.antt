@@ -1,13 +1,12 @@
 -- What a renaming makes of the places of a tree, and functions that mention only what they define.
-use Rattle.std.proofs.Common.{◌≡◌, ℕ, ◌+◌, ◌<◌, Bool, true, false, ◌&&◌, nat_lt, if◌then◌else◌, List, [], ◌∷◌, ◌++◌, length, map, Option, Some, None, ap, refl, sym, ◌∙◌, arith}
+use Rattle.std.proofs.Common.{◌≡◌, ℕ, ◌<◌, Bool, true, ◌&&◌, nat_lt, List, [], ◌∷◌, ◌++◌, length, map, Option, Some, None, ap, refl, sym, ◌∙◌, arith}
 use Rattle.std.proofs.lemmas.Bool.{and_parts}
 use Rattle.std.proofs.lemmas.Bool.Decides.{nat_tests}
 use Rattle.std.proofs.lemmas.List.{map-append}
-use Rattle.std.proofs.lemmas.List.Folds.{list_any_at, list_all-map}
-use Rattle.std.proofs.lemmas.List.Sums.{passes_at_first}
-use Rattle.std.specs.List.{flat_map, list_all, list_any}
-use Rattle.std.specs.Str.{bytes_eq}
-use Rattle.ir_core.specs.Names.{number_given, numbered}
+use Rattle.std.proofs.lemmas.List.Folds.{list_all-map}
+use Rattle.std.specs.List.{flat_map, list_all}
+use Rattle.ir_core.specs.Names.{number_given}
+use Rattle.ir_core.proofs.Numbering.{numbered-known}
 use Rattle.ir_core.specs.Module.{ModuleParts, FuncParts}
 use Rattle.ir_core.specs.TokenLengths.{name_from}
 use Rattle.ir_core.specs.declared.types.Ty.{Ty, map-Ty}
@@ -23,8 +22,8 @@ use Rattle.ir_core.specs.declared.instruction.Inst.TheVariants as insts
 use Rattle.ir_core.specs.declared.instruction.Block.{Block}
 use Rattle.ir_numbering.specs.declared.places.Place.{Place}
 use Rattle.ir_numbering.specs.declared.places.Place.TheVariants.{Local, Struct, Global}
-use Rattle.ir_numbering.specs.Places.{places_step, places_of_ty, places_of_val, places_of_option, places_of_args, places_of_arms, places_of_cases, places_of_index, places_of_inst, places_of_block, places_of_head, definitions_of_func, mentions_of_func, places_of_func}
-use Rattle.ir_numbering.specs.Renaming.{Renaming, renamed_loc, renamed_sym, renamed_ty, renamed_val, renamed_option, renamed_args, renamed_arms, renamed_cases, renamed_index, renamed_inst, renamed_block, renamed_param, renamed_func}
+use Rattle.ir_numbering.specs.Places.{places_step, places_of_ty, places_of_val, places_of_option, places_of_args, places_of_arms, places_of_cases, places_of_index, places_of_inst, places_of_block, definitions_of_func, mentions_of_func}
+use Rattle.ir_numbering.specs.Renaming.{Renaming, renamed_loc, renamed_sym, renamed_ty, renamed_val, renamed_option, renamed_args, renamed_arms, renamed_cases, renamed_index, renamed_inst, renamed_block, renamed_func}
 use Rattle.ir_numbering.specs.Numbers.{locals_at, with_names, renaming_of, numbered_by, numbered_func, is_below, is_closed}
 use Rattle.ir_numbering.proofs.TakenNames.{locals_at-append, with_names-append}
 
@@ -155,10 +154,6 @@ has_all table names = list_all (λ name. nat_lt (number_given table name) (lengt
 
 below : (a b : ℕ) → nat_lt a b ≡ true → a < b
 below a b e = grind (arith, nat_tests)
-
-numbered-known : (table : List (List ℕ)) (name : List ℕ) → number_given table name < length table → numbered table name ≡ table
-numbered-known table name h =
-    ap (λ b. if b then table else table ++ name ∷ []) (list_any_at (bytes_eq name) table (number_given table name) [] h (passes_at_first (bytes_eq name) table [] h))
 
 with_names-known : (table names : List (List ℕ)) → has_all table names ≡ true → with_names table names ≡ table
 unfolding with_names

@@ -6,11 +6,11 @@ ghost use Rattle.ir_numbering.specs.Places.{places_of_func};
 ghost use Rattle.ir_numbering.specs.Renaming.{renamed_global, renamed_declare};
 ghost use Rattle.ir_numbering.specs.Numbers.{renaming_outside, module_with, numbered_func, places_of_module, renamed_named, parts_by, numbered_module};
 
+use crate::Places;
 use crate::functions::{add_places_of_func, numbered_func};
 use crate::numbering::renamed_outside;
 use crate::tables::{has_room, number_in_module};
 use crate::trees::add_all;
-use crate::Places;
 use ir_core::{Declare, Func, GlobalVar, Module, Seq, Ty, TypeId};
 use std::alloc::{AllocError, Global};
 

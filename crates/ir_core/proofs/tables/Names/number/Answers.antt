@@ -1,13 +1,5 @@
-use Rattle.ir_core.proofs.Keys.{number_given-found, numbered-found, number_given-insert, numbered-insert}
+use Rattle.ir_core.proofs.Keys.{number_given-insert, numbered-insert}
 use Rattle.ir_core.proofs.tables.Names.number.Goals as goal
-
-pub returns-in-Some-clause-number : goal.returns-in-Some-clause-number
-returns-in-Some-clause-number c =
-    number_given-found (λ key. key.items) c.self.inside.set.keys _ c.args.name.now c.self.view_is _ c.in-Some.ensures.index
-
-pub returns-in-Some-clause-ok : goal.returns-in-Some-clause-ok
-returns-in-Some-clause-ok c =
-    numbered-found (λ key. key.items) c.self.inside.set.keys _ c.args.name.now c.self.view_is c.in-Some.ensures.found
 
 pub returns-clause-number : goal.returns-clause-number
 returns-clause-number c =
