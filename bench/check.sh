@@ -16,40 +16,12 @@ if [ ! -x "$program" ]; then
 fi
 
 PYTHONDONTWRITEBYTECODE=1 PYTHONPATH=$here exec python3 - "$program" "$@" <<'PY'
-import os, shutil, subprocess, sys, tempfile, time
+import os, sys, tempfile
 
 from check_shapes import SHAPES
+from measure import assembler, milliseconds, printed
 
 program, chosen = sys.argv[1], sys.argv[2:] or list(SHAPES)
-
-
-def run(command):
-    """The least of five times in milliseconds, and the most memory in bytes."""
-    best, most = None, 0
-    for _ in range(5):
-        begun = time.monotonic()
-        quiet = [(os.POSIX_SPAWN_OPEN, to, os.devnull, os.O_WRONLY, 0) for to in (1, 2)]
-        pid = os.posix_spawnp(command[0], command, os.environ, file_actions=quiet)
-        _, status, used = os.wait4(pid, 0)
-        took = (time.monotonic() - begun) * 1000
-        if status != 0:
-            sys.exit(f"check.sh: {command} ended with {status}")
-        best = took if best is None else min(best, took)
-        most = max(most, used.ru_maxrss * 1024)
-    return best, most
-
-
-def assembler(work):
-    """The first `llvm-as` that reads `ptr`, with the flag that version 14 asks for."""
-    path = os.path.join(work, "pointer.ll")
-    with open(path, "w") as file:
-        file.write("@p = global ptr null\n")
-    for command in (["llvm-as-16"], ["llvm-as"], ["llvm-as", "-opaque-pointers"]):
-        if shutil.which(command[0]):
-            tried = subprocess.run([*command, "-o", os.devnull, path], capture_output=True)
-            if tried.returncode == 0 and not tried.stderr:
-                return [*command, "-o", os.devnull]
-    return None
 
 
 with tempfile.TemporaryDirectory() as work:
@@ -63,13 +35,13 @@ with tempfile.TemporaryDirectory() as work:
             with open(path, "w") as file:
                 file.writelines(SHAPES[shape](scale))
             size = os.path.getsize(path)
-            answer = subprocess.run([program, "check", path], capture_output=True, text=True).stdout.strip()
-            took, memory = run([program, "check", path])
+            answer = printed([program, "check", path])
+            took, memory = milliseconds([program, "check", path])
             grew = "" if half is None else f"{took / half:.1f}"
             half = took
             beside, ratio = "", ""
             if llvm is not None:
-                time_of_llvm, _ = run([*llvm, path])
+                time_of_llvm, _ = milliseconds([*llvm, path])
                 beside, ratio = f"{time_of_llvm:.0f} ms", f"{took / time_of_llvm:.2f}"
             print(f"| {shape} | {size:,} | {answer} | {took:.0f} ms | {grew} | {memory / size:.0f} bytes | {beside} | {ratio} |")
     if llvm is None:

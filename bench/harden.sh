@@ -14,28 +14,12 @@ if [ ! -x "$program" ]; then
 fi
 
 PYTHONDONTWRITEBYTECODE=1 PYTHONPATH=$here exec python3 - "$program" <<'PY'
-import os, subprocess, sys, tempfile, time
+import os, sys, tempfile
 
 from check_shapes import SHAPES
+from measure import milliseconds, printed
 
 program = sys.argv[1]
-
-
-def run(command):
-    """The least of five times in milliseconds, the most memory in bytes, and what was printed."""
-    best, most, said = None, 0, ""
-    for _ in range(5):
-        begun = time.monotonic()
-        with subprocess.Popen(command, stdout=subprocess.PIPE, text=True) as child:
-            said = child.stdout.read().strip()
-            _, status, used = os.wait4(child.pid, 0)
-            child.returncode = os.waitstatus_to_exitcode(status)
-        took = (time.monotonic() - begun) * 1000
-        if status != 0 or said == "no count":
-            sys.exit(f"harden.sh: {command} ended with {status} and {said!r}")
-        best = took if best is None else min(best, took)
-        most = max(most, used.ru_maxrss * 1024)
-    return best, most, said
 
 
 with tempfile.TemporaryDirectory() as work:
@@ -46,7 +30,10 @@ with tempfile.TemporaryDirectory() as work:
         with open(path, "w") as file:
             file.writelines(SHAPES["functions"](scale))
         size = os.path.getsize(path)
-        checked, _, _ = run([program, path, "check"])
-        hardened, most, count = run([program, path, "harden"])
+        count = printed([program, path, "harden"])
+        if count == "no count":
+            sys.exit("harden.sh: the module isn't hardened")
+        checked, _ = milliseconds([program, path, "check"])
+        hardened, most = milliseconds([program, path, "harden"])
         print(f"| {size:,} | {int(count):,} | {checked:.0f} ms | {hardened:.0f} ms | {hardened - checked:.0f} ms | {most / size:.0f} bytes |")
 PY

@@ -13,8 +13,10 @@ if [ ! -x "$program" ]; then
     (cd "$top/crates/lex_bench" && rt run -- data/sample.ll) </dev/null >/dev/null
 fi
 
-exec python3 - "$program" <<'PY'
-import os, resource, shutil, subprocess, sys, tempfile, time
+PYTHONDONTWRITEBYTECODE=1 PYTHONPATH=$top/bench exec python3 - "$program" <<'PY'
+import os, sys, tempfile
+
+from measure import assembler, milliseconds, printed
 
 program = sys.argv[1]
 mebibyte = 1 << 20
@@ -55,44 +57,24 @@ def one_function(size):
     return "".join(out)
 
 
-def run(command):
-    """The least of five times in milliseconds, and the most memory in bytes."""
-    best, most = None, 0
-    for _ in range(5):
-        begun = time.monotonic()
-        pid = os.posix_spawnp(
-            command[0],
-            command,
-            os.environ,
-            file_actions=[(os.POSIX_SPAWN_OPEN, 1, os.devnull, os.O_WRONLY, 0)],
-        )
-        _, status, used = os.wait4(pid, 0)
-        took = (time.monotonic() - begun) * 1000
-        if status != 0:
-            sys.exit(f"parse.sh: {command} ended with {status}")
-        best = took if best is None else min(best, took)
-        most = max(most, used.ru_maxrss * 1024)
-    return best, most
-
-
-llvm = next((name for name in ("llvm-as-16", "llvm-as") if shutil.which(name)), None)
 with tempfile.TemporaryDirectory() as work:
+    llvm = assembler(work)
     for name, make in (("many functions", many_functions), ("one function", one_function)):
         for size in (1, 2, 4):
             path = os.path.join(work, "module.ll")
             text = make(size * mebibyte)
             with open(path, "w") as file:
                 file.write(text)
-            counted = subprocess.run([program, path, "module"], capture_output=True, text=True).stdout.strip()
-            took, memory = run([program, path, "module"])
+            counted = printed([program, path, "module"])
+            took, memory = milliseconds([program, path, "module"])
             line = (
                 f"{name}, {len(text)} bytes, {counted} instructions: {took:.0f} ms, "
                 f"{memory / len(text):.0f} bytes of memory a byte of text"
             )
             if llvm is not None:
-                beside, _ = run([llvm, "-o", os.devnull, path])
-                line += f"; {llvm} {beside:.0f} ms, ratio {took / beside:.2f}"
+                beside, _ = milliseconds([*llvm, path])
+                line += f"; llvm-as {beside:.0f} ms, ratio {took / beside:.2f}"
             print(line)
-if llvm is None:
-    print("llvm-as is not installed: no ratios")
+    if llvm is None:
+        print("llvm-as is not installed: no ratios")
 PY

@@ -15,27 +15,12 @@ if [ ! -x "$program" ]; then
 fi
 
 PYTHONDONTWRITEBYTECODE=1 PYTHONPATH=$here exec python3 - "$program" <<'PY'
-import os, sys, tempfile, time
+import os, sys, tempfile
 
 from loop_shapes import SHAPES
+from measure import least
 
 program = sys.argv[1]
-
-
-def run(command, report):
-    """The least of five times in seconds, and the most memory in bytes; what the program writes goes to a file."""
-    best, most = None, 0
-    for _ in range(5):
-        begun = time.monotonic()
-        flags = os.O_WRONLY | os.O_CREAT | os.O_TRUNC
-        pid = os.posix_spawnp(command[0], command, os.environ, file_actions=[(os.POSIX_SPAWN_OPEN, 1, report, flags, 0o600)])
-        _, status, used = os.wait4(pid, 0)
-        took = time.monotonic() - begun
-        if status != 0:
-            sys.exit(f"run.sh: {command} ended with {status}")
-        best = took if best is None else min(best, took)
-        most = max(most, used.ru_maxrss * 1024)
-    return best, most
 
 
 def steps_of(report):
@@ -59,7 +44,7 @@ with tempfile.TemporaryDirectory() as work:
             file.write(turns)
         before = None
         for command in ("src", "run"):
-            took, memory = run([program, command, module, schedule], report)
+            took, memory = least([program, command, module, schedule], report)
             steps = steps_of(report)
             each = took / steps * 1e9
             ratio = f"{each / before:.2f}" if before else ""
