@@ -11,7 +11,7 @@ use Rattle.ir_core.specs.declared.instruction.Inst.{Inst}
 use Rattle.ir_core.specs.declared.instruction.Inst.TheVariants as insts
 use Rattle.ir_core.specs.declared.instruction.Block.{Block}
 use Rattle.ir_core.specs.Module.{FuncParts}
-use Rattle.ir_check.specs.Blocks.{is_phi}
+use Rattle.ir_core.specs.Instructions.{is_phi}
 use Rattle.ir_flow.specs.Edges.{edges_of, is_loop_head}
 use Rattle.hard_ir.specs.declared.instruction.HInst.{HInst}
 use Rattle.hard_ir.specs.declared.instruction.HInst.TheVariants.{Do}

@@ -26,7 +26,8 @@ use Rattle.ir_core.specs.Module.{ModuleParts, FuncParts}
 use Rattle.ir_layout.specs.Limits.{limit_among, first_limit}
 use Rattle.ir_layout.specs.WrittenTypes.{types_in_val}
 use Rattle.ir_layout.specs.declared.limits.LimitKind.{LimitKind}
-use Rattle.ir_numbering.specs.Places.{places_of_ty, places_of_val, places_of_inst, result_of}
+use Rattle.ir_numbering.specs.Places.{places_of_ty, places_of_val, places_of_inst}
+use Rattle.ir_core.specs.Instructions.{result_of}
 use Rattle.ir_numbering.specs.declared.places.Place.{Place}
 use Rattle.ir_numbering.specs.declared.places.Place.TheVariants.{Local}
 use Rattle.ir_lines.specs.Lines.{Line, TypeLine, GlobalLine, DeclareLine, HeadLine, BlockLine, InstLine}
@@ -38,7 +39,8 @@ use Rattle.ir_calls.specs.Calls.{calls_keep, are_plain}
 use Rattle.ir_types.specs.Firsts.{first_of}
 use Rattle.ir_types.specs.Meanings.{Meaning, Label, Register, Pair, param_meaning, result_of as meaning_of_result}
 use Rattle.ir_types.specs.Types.{types_keep, inst_fits, operand_fits, is_register_of, is_pair_of}
-use Rattle.ir_check.specs.Blocks.{is_phi, terminators_keep, entries_keep}
+use Rattle.ir_check.specs.Blocks.{terminators_keep, entries_keep}
+use Rattle.ir_core.specs.Instructions.{is_phi}
 use Rattle.ir_check.specs.CodeLimits.{limit_in}
 use Rattle.ir_check.specs.Flows.{OfAll, PhisFit}
 use Rattle.ir_check.specs.Functions.{has_main}

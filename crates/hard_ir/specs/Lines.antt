@@ -24,7 +24,7 @@ use Rattle.ir_grammar.specs.Words.{entry, in_table}
 use Rattle.ir_grammar.specs.Types.{memory_type, any_type}
 use Rattle.ir_grammar.specs.Values.{constant_head, value_rest}
 use Rattle.ir_grammar.specs.Fitting.{IsInstruction}
-use Rattle.ir_numbering.specs.Places.{result_of}
+use Rattle.ir_core.specs.Instructions.{result_of}
 use Rattle.hard_ir.specs.declared.instruction.When.{When}
 use Rattle.hard_ir.specs.declared.instruction.When.TheVariants.{Always, Plain, Tx}
 use Rattle.hard_ir.specs.declared.instruction.HVal.{HVal}

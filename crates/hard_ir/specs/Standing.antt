@@ -16,7 +16,7 @@ use Rattle.ir_core.specs.Names.{number_given}
 use Rattle.ir_core.specs.Tokens.{IsToken}
 use Rattle.ir_grammar.specs.Parts.{Tok}
 use Rattle.ir_grammar.specs.Fitting.{IsLine}
-use Rattle.ir_check.specs.Blocks.{is_phi}
+use Rattle.ir_core.specs.Instructions.{is_phi}
 use Rattle.ir_numbering.specs.Renaming.{Renaming, renamed_loc, renamed_ty, renamed_val, renamed_inst}
 use Rattle.hard_ir.specs.declared.instruction.HVal.{HVal}
 use Rattle.hard_ir.specs.declared.instruction.HVal.TheVariants as operands

@@ -18,12 +18,12 @@ use Rattle.ir_core.specs.declared.instruction.Inst.TheVariants as insts
 use Rattle.ir_core.specs.declared.instruction.Block.{Block}
 use Rattle.ir_core.specs.Module.{ModuleParts, FuncParts}
 use Rattle.ir_flow.specs.Edges.{edges_of, is_loop_head}
-use Rattle.ir_numbering.specs.Places.{result_of}
+use Rattle.ir_core.specs.Instructions.{result_of}
 use Rattle.ir_lines.specs.Lines.{site_of, Line, TypeLine, GlobalLine, DeclareLine, HeadLine, BlockLine, InstLine, lines_of, inst_lines as source_insts, block_lines as source_block, blocks_lines as source_blocks, funcs_lines as source_funcs}
 use Rattle.ir_lines.specs.declared.site.Named.{Named}
 use Rattle.ir_lines.specs.declared.site.Named.TheVariants as names
 use Rattle.ir_names.specs.Names.{same_name, defined_in, definitions}
-use Rattle.ir_check.specs.Blocks.{is_phi}
+use Rattle.ir_core.specs.Instructions.{is_phi}
 use Rattle.hard_ir.specs.declared.instruction.HInst.{HInst}
 use Rattle.hard_ir.specs.declared.instruction.HInst.TheVariants.{Mov, Do}
 use Rattle.hard_ir.specs.Image.{Table, copy_of, phi_image}

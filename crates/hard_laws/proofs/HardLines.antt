@@ -13,7 +13,7 @@ use Rattle.ir_core.specs.declared.instruction.Block.{Block}
 use Rattle.ir_core.specs.Module.{ModuleParts, FuncParts}
 use Rattle.ir_flow.specs.Edges.{edges_of, is_loop_head}
 use Rattle.ir_lines.specs.Lines.{HeadLine}
-use Rattle.ir_check.specs.Blocks.{is_phi}
+use Rattle.ir_core.specs.Instructions.{is_phi}
 use Rattle.hard_ir.specs.declared.instruction.HInst.{HInst}
 use Rattle.hard_ir.specs.Image.{Table, copy_of, phi_image}
 use Rattle.hard_ir.specs.Hardened.{head_of, at_entry, at_head, hard_block, hard_blocks, hard_func, hardened_by}

@@ -8,11 +8,12 @@ use Rattle.ir_core.specs.declared.values.Side.{Side}
 use Rattle.ir_core.specs.declared.values.Side.TheVariants.{M, S}
 use Rattle.ir_core.specs.declared.instruction.Inst.{Inst}
 use Rattle.ir_core.specs.declared.instruction.Inst.TheVariants as insts
-use Rattle.ir_numbering.specs.Places.{result_of}
+use Rattle.ir_core.specs.Instructions.{result_of}
 use Rattle.ir_types.specs.Firsts.{first_of}
 use Rattle.ir_types.specs.Meanings.{result_of as meaning_of_result}
 use Rattle.ir_types.specs.Types.{typed_operands}
-use Rattle.ir_check.specs.Blocks.{is_terminator, is_phi}
+use Rattle.ir_check.specs.Blocks.{is_terminator}
+use Rattle.ir_core.specs.Instructions.{is_phi}
 use Rattle.hard_ir.specs.declared.instruction.HInst.{HInst}
 use Rattle.hard_ir.specs.declared.instruction.HInst.TheVariants.{Cut, Begin, End, Tick, Chk, ChkMem, Mov, Do}
 use Rattle.hard_ir.specs.Image.{Table, unflagged, single_result, copy_of}

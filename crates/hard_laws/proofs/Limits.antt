@@ -21,7 +21,7 @@ use Rattle.ir_layout.specs.declared.limits.LimitKind.TheVariants.{TypeSize, Type
 use Rattle.ir_layout.specs.WrittenTypes.{types_in_inst, types_in_val, types_in_arg}
 use Rattle.ir_lines.specs.Lines.{Line, TypeLine, GlobalLine, DeclareLine, HeadLine, InstLine, funcs_lines}
 use Rattle.ir_types.specs.Types.{typed_operands, typed_index}
-use Rattle.ir_check.specs.Blocks.{is_phi}
+use Rattle.ir_core.specs.Instructions.{is_phi}
 use Rattle.ir_check.specs.CodeLimits.{limit_in}
 use Rattle.hard_ir.specs.declared.instruction.HInst.{HInst}
 use Rattle.hard_ir.specs.declared.instruction.HInst.TheVariants.{Chk, ChkMem, Mov, Do}

@@ -16,7 +16,8 @@ use Rattle.ir_core.specs.Module.{FuncParts}
 use Rattle.ir_flow.specs.Edges.{edges_of, is_loop_head}
 use Rattle.ir_types.specs.Firsts.{first_of}
 use Rattle.ir_types.specs.Meanings.{Meaning, Label, Register, param_meaning, block_meanings, meanings, result_of}
-use Rattle.ir_check.specs.Blocks.{is_phi, begins_well}
+use Rattle.ir_check.specs.Blocks.{begins_well}
+use Rattle.ir_core.specs.Instructions.{is_phi}
 use Rattle.hard_ir.specs.declared.instruction.HInst.{HInst}
 use Rattle.hard_ir.specs.declared.instruction.HInst.TheVariants.{Mov, Do}
 use Rattle.hard_ir.specs.Image.{Table, copy_of, phi_image}

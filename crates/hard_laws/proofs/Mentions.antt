@@ -24,7 +24,7 @@ use Rattle.ir_lines.specs.declared.site.Named.{Named}
 use Rattle.ir_lines.specs.declared.site.Named.TheVariants as names
 use Rattle.ir_names.specs.Names.{is_defined, name_at, mentions_in}
 use Rattle.ir_types.specs.Types.{typed_operands, typed_index}
-use Rattle.ir_check.specs.Blocks.{is_phi}
+use Rattle.ir_core.specs.Instructions.{is_phi}
 use Rattle.hard_ir.specs.declared.instruction.HInst.{HInst}
 use Rattle.hard_ir.specs.declared.instruction.HInst.TheVariants.{Chk, ChkMem, Mov, Do}
 use Rattle.hard_ir.specs.Image.{Table, unflagged, single_result, pair_of}

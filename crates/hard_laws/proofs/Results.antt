@@ -13,7 +13,7 @@ use Rattle.ir_core.specs.declared.instruction.Inst.{Inst}
 use Rattle.ir_core.specs.declared.instruction.Inst.TheVariants as insts
 use Rattle.ir_core.specs.declared.instruction.Block.{Block}
 use Rattle.ir_core.specs.Module.{ModuleParts, FuncParts}
-use Rattle.ir_numbering.specs.Places.{result_of as named_result}
+use Rattle.ir_core.specs.Instructions.{result_of as named_result}
 use Rattle.ir_lines.specs.Lines.{TypeLine, GlobalLine, DeclareLine, inst_lines, block_lines, blocks_lines, func_lines, funcs_lines, code_lines, lines_of}
 use Rattle.ir_lines.specs.declared.site.Named.{Named}
 use Rattle.ir_lines.specs.declared.site.Named.TheVariants as names

@@ -14,11 +14,12 @@ use Rattle.ir_core.specs.declared.values.Side.{Side}
 use Rattle.ir_core.specs.declared.values.Side.TheVariants.{M, S}
 use Rattle.ir_core.specs.declared.instruction.Inst.{Inst}
 use Rattle.ir_core.specs.declared.instruction.Inst.TheVariants as insts
-use Rattle.ir_numbering.specs.Places.{result_of}
+use Rattle.ir_core.specs.Instructions.{result_of}
 use Rattle.ir_types.specs.Firsts.{first_of}
 use Rattle.ir_types.specs.Meanings.{Meaning, result_of as meaning_of_result}
 use Rattle.ir_types.specs.Types.{typed_operands}
-use Rattle.ir_check.specs.Blocks.{is_terminator, is_phi}
+use Rattle.ir_check.specs.Blocks.{is_terminator}
+use Rattle.ir_core.specs.Instructions.{is_phi}
 use Rattle.hard_ir.specs.declared.instruction.HInst.{HInst}
 use Rattle.hard_ir.specs.declared.instruction.HInst.TheVariants.{Mov, Do}
 use Rattle.hard_ir.specs.Image.{unflagged, is_doubled, single_result, copy_of, copies, done_by, flow, checked, check, with_checks, flow_table, check_table}

@@ -20,7 +20,8 @@ use Rattle.ir_flow.specs.Edges.{labels_of, last_labels, numbered_from, number_of
 use Rattle.ir_flow.specs.Paths.{IsEdge}
 use Rattle.ir_flow.specs.Phis.{IsFitting, PhiAt, phis_of_body, phis_from, AllFitting}
 use Rattle.ir_lines.specs.Lines.{BlockLine}
-use Rattle.ir_check.specs.Blocks.{is_terminator, is_phi, ends_well, begins_well, terminators_keep, entries_keep}
+use Rattle.ir_check.specs.Blocks.{is_terminator, ends_well, begins_well, terminators_keep, entries_keep}
+use Rattle.ir_core.specs.Instructions.{is_phi}
 use Rattle.ir_check.specs.Flows.{OfAll, PhisFit}
 use Rattle.hard_ir.specs.declared.instruction.HInst.{HInst}
 use Rattle.hard_ir.specs.declared.instruction.HInst.TheVariants.{Do}

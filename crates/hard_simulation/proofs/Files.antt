@@ -7,26 +7,9 @@ use Rattle.std.specs.Option.{is_some}
 use Rattle.ir_core.specs.declared.types.Ty.{Ty}
 use Rattle.ir_core.specs.declared.types.Loc.{Loc}
 use Rattle.inst_meaning.specs.Registers.{get, put}
+use Rattle.inst_meaning.proofs.Puts.{put-here, put-elsewhere}
 use Rattle.inst_meaning.specs.Phis.{all_assigned}
 use Rattle.inst_laws.specs.Agreement.{Agree}
-
--- ---- words that were put
-
-pub put-same : (registers : List (Option ℕ)) (at word : ℕ) → get (put registers at word) at ≡ Some word
-put-same [] zero word = refl
-put-same [] (suc at) word = put-same [] at word
-put-same (old ∷ registers) zero word = refl
-put-same (old ∷ registers) (suc at) word = put-same registers at word
-
-pub put-other : (registers : List (Option ℕ)) (at word k : ℕ) → at ≢ k → get (put registers at word) k ≡ get registers k
-put-other [] zero word zero n = absurd (n refl)
-put-other [] zero word (suc k) n = refl
-put-other [] (suc at) word zero n = refl
-put-other [] (suc at) word (suc k) n = put-other [] at word k (λ e. n (ap suc e))
-put-other (old ∷ registers) zero word zero n = absurd (n refl)
-put-other (old ∷ registers) zero word (suc k) n = refl
-put-other (old ∷ registers) (suc at) word zero n = refl
-put-other (old ∷ registers) (suc at) word (suc k) n = put-other registers at word k (λ e. n (ap suc e))
 
 -- ---- copies under way
 
@@ -67,15 +50,15 @@ copied-one reg regs shadows b word e h = record { but = λ at n. by_name at (nat
     by_name : (at : ℕ) (same : Bool) → nat_eq reg.1.0 at ≡ same → is_among at regs ≡ false → get (put shadows reg.1.0 word) at ≡ get b at
     by_name at true f n =
         let is : reg.1.0 ≡ at = eqb-true reg.1.0 at f in
-        ap (get (put shadows reg.1.0 word)) (sym is) ∙ put-same shadows reg.1.0 word ∙ sym e ∙ ap (get b) is
+        ap (get (put shadows reg.1.0 word)) (sym is) ∙ put-here shadows reg.1.0 word ∙ sym e ∙ ap (get b) is
     by_name at false f n =
-        put-other shadows reg.1.0 word at (eqb-false reg.1.0 at f) ∙ h.but at (ap (λ (s : Bool). s || is_among at regs) f ∙ n)
+        put-elsewhere shadows reg.1.0 word at (eqb-false reg.1.0 at f) ∙ h.but at (ap (λ (s : Bool). s || is_among at regs) f ∙ n)
 
 -- a word is put on the master's side and in the source, and is still to be copied
 pub one-but : (reg : Ty × Loc) (shadows b : List (Option ℕ)) (word : ℕ) → Agree shadows b → AgreeBut (reg ∷ []) shadows (put b reg.1.0 word)
 one-but reg shadows b word h = record {
   but = λ at n. h.same at
-      ∙ sym (put-other b reg.1.0 word at (eqb-false reg.1.0 at (alone (nat_eq reg.1.0 at) n)));
+      ∙ sym (put-elsewhere b reg.1.0 word at (eqb-false reg.1.0 at (alone (nat_eq reg.1.0 at) n)));
 }
   where
     alone : (same : Bool) → (same || false) ≡ false → same ≡ false
@@ -95,13 +78,13 @@ one-fresh reg masters b word = record {
     here : (at : ℕ) → nat_eq reg.1.0 at ≡ true → get (put masters reg.1.0 word) at ≡ get (put b reg.1.0 word) at
     here at f =
         let is : reg.1.0 ≡ at = eqb-true reg.1.0 at f in
-        ap (get (put masters reg.1.0 word)) (sym is) ∙ put-same masters reg.1.0 word ∙ sym (put-same b reg.1.0 word)
+        ap (get (put masters reg.1.0 word)) (sym is) ∙ put-here masters reg.1.0 word ∙ sym (put-here b reg.1.0 word)
         ∙ ap (get (put b reg.1.0 word)) is
 
     has : (at : ℕ) → nat_eq reg.1.0 at ≡ true → is_some (get (put b reg.1.0 word) at) ≡ true
     has at f =
         let is : reg.1.0 ≡ at = eqb-true reg.1.0 at f in
-        ap (λ (k : ℕ). is_some (get (put b reg.1.0 word) k)) (sym is) ∙ ap is_some (put-same b reg.1.0 word)
+        ap (λ (k : ℕ). is_some (get (put b reg.1.0 word) k)) (sym is) ∙ ap is_some (put-here b reg.1.0 word)
 
 -- ---- parameters
 
@@ -111,7 +94,7 @@ pub untouched : (words : List (Loc × ℕ)) (registers : List (Option ℕ)) (at 
 untouched [] registers at n = refl
 untouched (word ∷ words) registers at n =
     let parts = neither (nat_eq word.0.0 at) (list_any (λ word. nat_eq word.0.0 at) words) n in
-    untouched words (put registers word.0.0 word.1) at parts.1 ∙ put-other registers word.0.0 word.1 at (eqb-false word.0.0 at parts.0)
+    untouched words (put registers word.0.0 word.1) at parts.1 ∙ put-elsewhere registers word.0.0 word.1 at (eqb-false word.0.0 at parts.0)
   where
     neither : (b rest : Bool) → (b || rest) ≡ false → (b ≡ false) × (rest ≡ false)
     neither true rest e = cc

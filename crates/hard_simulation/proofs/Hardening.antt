@@ -9,7 +9,7 @@ use Rattle.ir_core.specs.declared.instruction.Inst.{Inst}
 use Rattle.ir_core.specs.declared.instruction.Block.{Block}
 use Rattle.ir_core.specs.Module.{ModuleParts, FuncParts}
 use Rattle.ir_flow.specs.Edges.{edges_of, is_loop_head}
-use Rattle.inst_meaning.specs.Phis.{is_phi}
+use Rattle.ir_core.specs.Instructions.{is_phi}
 use Rattle.src_meaning.specs.State.{blocks_at as source_blocks}
 use Rattle.hard_ir.specs.declared.instruction.HInst.{HInst}
 use Rattle.hard_ir.specs.declared.instruction.HBlock.{HBlock}

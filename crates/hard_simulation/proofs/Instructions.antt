@@ -23,7 +23,7 @@ use Rattle.inst_meaning.specs.declared.actions.Cause.TheVariants.{Unreachable}
 use Rattle.inst_meaning.specs.declared.actions.Action.{Action}
 use Rattle.inst_meaning.specs.declared.actions.Action.TheVariants.{Assign, Fault}
 use Rattle.inst_meaning.specs.Operands.{word_of, argument_words}
-use Rattle.inst_meaning.specs.Phis.{is_phi}
+use Rattle.ir_core.specs.Instructions.{is_phi}
 use Rattle.inst_meaning.specs.Action.{on_word, on_width, operated, inner_pointer, creating, asking, outside, calling, action_of, destination}
 use Rattle.inst_laws.specs.Agreement.{Agree, IsDefined}
 use Rattle.inst_laws.proofs.Flags.{action-plain}

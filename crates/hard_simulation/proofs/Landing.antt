@@ -14,9 +14,10 @@ use Rattle.ir_core.specs.declared.instruction.Block.{Block}
 use Rattle.ir_core.specs.Module.{ModuleParts, FuncParts}
 use Rattle.ir_flow.specs.Edges.{numbered_from, number_of}
 use Rattle.ir_lines.specs.Lines.{BlockLine}
-use Rattle.ir_check.specs.Blocks.{is_phi as is_phi_line, ends_well, begins_well}
+use Rattle.ir_check.specs.Blocks.{ends_well, begins_well}
 use Rattle.ir_check.specs.Faults.{IsAccepted}
-use Rattle.inst_meaning.specs.Phis.{is_phi, phi_count, phis_of}
+use Rattle.inst_meaning.specs.Phis.{phi_count, phis_of}
+use Rattle.ir_core.specs.Instructions.{is_phi}
 use Rattle.src_meaning.specs.State.{blocks_at as source_blocks}
 use Rattle.hard_ir.specs.declared.instruction.HInst.{HInst}
 use Rattle.hard_ir.specs.declared.instruction.HBlock.{HBlock}
@@ -30,7 +31,7 @@ use Rattle.hard_simulation.specs.Image.{Image, Over, Marked, Phi, Next, AreBlock
 -- ---- phis
 
 -- instructions without phis have none on either side
-none-on-side : (side : Side) (body : List Inst) → not (list_any is_phi_line body) ≡ true → filter_map (phi_on side) (flat_map phi_image body) ≡ []
+none-on-side : (side : Side) (body : List Inst) → not (list_any is_phi body) ≡ true → filter_map (phi_on side) (flat_map phi_image body) ≡ []
 none-on-side side [] plain = refl
 none-on-side side (insts.Phi dst ty arms ∷ body) plain = absurd cc
 none-on-side side (inst ∷ body) plain = none-on-side side body plain

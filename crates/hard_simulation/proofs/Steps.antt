@@ -23,7 +23,7 @@ use Rattle.inst_meaning.specs.declared.actions.Cause.TheVariants.{Unreachable}
 use Rattle.inst_meaning.specs.declared.actions.Action.{Action}
 use Rattle.inst_meaning.specs.declared.actions.Action.TheVariants.{Assign, Reserve, Read, Write, Update, Pass, Jump, Call, Ask, Create, Join, Exit, Return, Fault}
 use Rattle.inst_meaning.specs.Action.{action_of, callees_of, destination}
-use Rattle.inst_meaning.specs.Phis.{is_phi}
+use Rattle.ir_core.specs.Instructions.{is_phi}
 use Rattle.inst_laws.specs.Agreement.{Agree, IsDefined}
 use Rattle.inst_laws.proofs.Agreement.{actions-same, put-agrees}
 use Rattle.src_meaning.specs.declared.state.CallStack.{CallStack as SourceStack}

@@ -14,7 +14,7 @@ use Rattle.ir_core.specs.declared.values.Val.{Val}
 use Rattle.ir_core.specs.declared.instruction.Inst.{Inst}
 use Rattle.ir_core.specs.declared.instruction.Block.{Block}
 use Rattle.ir_core.specs.Module.{ModuleParts}
-use Rattle.inst_meaning.specs.Phis.{is_phi}
+use Rattle.ir_core.specs.Instructions.{is_phi}
 use Rattle.src_meaning.specs.State.{blocks_at as source_blocks}
 use Rattle.hard_ir.specs.declared.instruction.HInst.{HInst}
 use Rattle.hard_ir.specs.declared.instruction.HInst.TheVariants.{Cut, Begin, Tick}

@@ -1,7 +1,25 @@
--- A register is assigned in a file that has room for it, or that is first grown by registers without words.
-use Rattle.std.proofs.Common.{ℕ, zero, suc, ◌≡◌, ◌+◌, ◌-◌, ◌<◌, ◌≤◌, List, [], ◌∷◌, ◌++◌, Option, Some, None, length, refl, ap, ◌∙◌, arith, slice_set, replicate, take, length-append}
+-- What registers hold once one is assigned, in a file that has room for it or that is first grown by registers without words.
+use Rattle.std.proofs.Common.{ℕ, zero, suc, ◌≡◌, ◌+◌, ◌-◌, ◌<◌, ◌≤◌, List, [], ◌∷◌, ◌++◌, ◌≢◌, Option, Some, None, length, refl, ap, ◌∙◌, arith, slice_set, replicate, take, length-append}
 use Rattle.std.proofs.lemmas.List.{take_all, length-replicate}
-use Rattle.inst_meaning.specs.Registers.{put}
+use Rattle.inst_meaning.specs.Registers.{get, put}
+
+-- the register has the word
+pub put-here : (registers : List (Option ℕ)) (at word : ℕ) → get (put registers at word) at ≡ Some word
+put-here [] zero word = refl
+put-here [] (suc at) word = put-here [] at word
+put-here (old ∷ registers) zero word = refl
+put-here (old ∷ registers) (suc at) word = put-here registers at word
+
+-- and the others have what they had
+pub put-elsewhere : (registers : List (Option ℕ)) (at word k : ℕ) → at ≢ k → get (put registers at word) k ≡ get registers k
+put-elsewhere [] zero word zero h = absurd (h refl)
+put-elsewhere [] zero word (suc k) h = refl
+put-elsewhere [] (suc at) word zero h = refl
+put-elsewhere [] (suc at) word (suc k) h = put-elsewhere [] at word k (λ e. h (ap suc e))
+put-elsewhere (old ∷ registers) zero word zero h = absurd (h refl)
+put-elsewhere (old ∷ registers) zero word (suc k) h = refl
+put-elsewhere (old ∷ registers) (suc at) word zero h = refl
+put-elsewhere (old ∷ registers) (suc at) word (suc k) h = put-elsewhere registers at word k (λ e. h (ap suc e))
 
 pub put-within : (xs : List (Option ℕ)) (at word : ℕ) → at < length xs → slice_set xs at (Some word) ≡ put xs at word
 put-within [] at word h = absurd (omega arith)

@@ -9,13 +9,10 @@ use Rattle.ir_core.specs.declared.types.Loc.{Loc}
 use Rattle.ir_core.specs.declared.values.Val.{Val}
 use Rattle.ir_core.specs.declared.instruction.Inst.{Inst}
 use Rattle.ir_core.specs.declared.instruction.Inst.TheVariants as insts
+use Rattle.ir_core.specs.Instructions.{is_phi}
 use Rattle.ir_layout.specs.Memory.{LayoutParts}
 use Rattle.inst_meaning.specs.Registers.{put}
 use Rattle.inst_meaning.specs.Operands.{typed_word}
-
-abbrev pub is_phi : Inst → Bool
-is_phi (insts.Phi dst ty arms) = true
-is_phi other = false
 
 -- how many phis stand at the head of a block, and which
 abbrev pub phi_count : List Inst → ℕ

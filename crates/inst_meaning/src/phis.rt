@@ -1,7 +1,7 @@
 //! What phis take (LLVM Language Reference, 'phi Instruction').
 ghost use Rattle.std.specs.Prelude.{◌≡◌, ◌≤◌, length, Some, true, IfOk};
 ghost use Rattle.std.specs.Option.{is_some, option_copied};
-ghost use Rattle.inst_meaning.specs.Phis.{is_phi, phi_count, arm_from, phi_word, phi_words};
+ghost use Rattle.inst_meaning.specs.Phis.{phi_count, arm_from, phi_word, phi_words};
 
 use crate::Operands;
 use ir_core::{Inst, Loc, Val};

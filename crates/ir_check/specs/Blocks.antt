@@ -4,6 +4,7 @@ use Rattle.std.specs.Prelude.{Bool, true, false, not, ◌&&◌, ◌==◌, List, 
 use Rattle.std.specs.List.{list_any}
 use Rattle.ir_core.specs.declared.instruction.Inst.{Inst}
 use Rattle.ir_core.specs.declared.instruction.Inst.TheVariants as insts
+use Rattle.ir_core.specs.Instructions.{is_phi}
 use Rattle.ir_core.specs.Module.{FuncParts}
 use Rattle.ir_flow.specs.Edges.{edges_of}
 use Rattle.ir_lines.specs.Lines.{Line, BlockLine}
@@ -15,10 +16,6 @@ is_terminator (insts.Switch ty on default cases) = true
 is_terminator (insts.Ret ty val) = true
 is_terminator insts.Unreachable = true
 is_terminator inst = false
-
-abbrev pub is_phi : Inst → Bool
-is_phi (insts.Phi dst ty arms) = true
-is_phi inst = false
 
 -- the last of the instructions is the one terminator
 abbrev pub ends_well : List Inst → Bool

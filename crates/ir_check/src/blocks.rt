@@ -2,7 +2,8 @@
 ghost use Rattle.std.specs.Prelude.{◌≡◌, not, IfOk, map};
 ghost use Rattle.std.specs.List.{list_any};
 ghost use Rattle.ir_flow.specs.Edges.{edges_of};
-ghost use Rattle.ir_check.specs.Blocks.{is_terminator, is_phi, ends_well, begins_well, enters};
+ghost use Rattle.ir_check.specs.Blocks.{is_terminator, ends_well, begins_well, enters};
+ghost use Rattle.ir_core.specs.Instructions.{is_phi};
 
 use ir_core::{Block, Declare, Func, GlobalVar, Inst, Module};
 use ir_flow::edges;
@@ -22,12 +23,6 @@ fn is_terminator(inst: &Inst) -> bool
             | Inst::Ret { .. }
             | Inst::Unreachable
     )
-}
-
-fn is_phi(inst: &Inst) -> bool
-    ensures { result ≡ is_phi inst.now }
-{
-    matches!(inst, Inst::Phi { .. })
 }
 
 // Whether the last of the instructions is the one terminator.
@@ -52,7 +47,7 @@ fn has_phi(body: &[Inst]) -> bool
     ensures { result ≡ list_any is_phi body.now }
 {
     for inst in body {
-        if is_phi(inst) {
+        if inst.is_phi() {
             return true;
         }
     }
@@ -65,7 +60,7 @@ fn begins_well(body: &[Inst]) -> bool
 {
     let mut left = body;
     while let [inst, rest @ ..] = left {
-        if !is_phi(inst) {
+        if !inst.is_phi() {
             return !has_phi(rest);
         }
         left = rest;

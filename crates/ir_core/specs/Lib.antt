@@ -1,5 +1,6 @@
 pub mod formers
 pub mod Module
+pub mod Instructions
 pub mod Names
 pub mod Tokens
 pub mod TokenLengths

@@ -7,7 +7,8 @@ use Rattle.std.specs.Prelude.{ℕ, Bool, false, not, ◌&&◌, List, [], ◌∷�
 use Rattle.std.specs.List.{flat_map, list_any, cons_option}
 use Rattle.std.specs.Option.{option_map}
 use Rattle.ir_core.specs.Module.{ModuleParts}
-use Rattle.ir_numbering.specs.Places.{places_of_ty, places_of_global, places_of_declare, places_of_head, places_of_inst, result_of}
+use Rattle.ir_numbering.specs.Places.{places_of_ty, places_of_global, places_of_declare, places_of_head, places_of_inst}
+use Rattle.ir_core.specs.Instructions.{result_of}
 use Rattle.ir_numbering.specs.declared.places.Place.{Place}
 use Rattle.ir_numbering.specs.declared.places.Place.TheVariants.{Local, Struct, Global}
 use Rattle.ir_lines.specs.Lines.{Line, TypeLine, GlobalLine, DeclareLine, HeadLine, BlockLine, InstLine, site_of, lines_of, first_told}

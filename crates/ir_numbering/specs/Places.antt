@@ -17,6 +17,7 @@ use Rattle.ir_core.specs.declared.values.Declare.{Declare}
 use Rattle.ir_core.specs.declared.instruction.Inst.{Inst}
 use Rattle.ir_core.specs.declared.instruction.Inst.TheVariants as insts
 use Rattle.ir_core.specs.declared.instruction.Block.{Block}
+use Rattle.ir_core.specs.Instructions.{result_of}
 use Rattle.ir_core.specs.Module.{FuncParts}
 use Rattle.ir_numbering.specs.declared.places.Place.{Place}
 use Rattle.ir_numbering.specs.declared.places.Place.TheVariants.{Local, Struct, Global}
@@ -107,22 +108,6 @@ abbrev pub places_of_declare : Declare → List Place
 places_of_declare declare = places_of_ty declare.ret ++ Global declare.sym ∷ [] ++ flat_map places_of_ty declare.params
 
 -- ---- functions
-
--- the register that takes an instruction's result
-abbrev pub result_of : Inst → Option Loc
-result_of (insts.Bin dst op flags w a b) = Some dst
-result_of (insts.Cmp dst pred ty a b) = Some dst
-result_of (insts.Select dst cond ty a b) = Some dst
-result_of (insts.Cast dst op from a to) = Some dst
-result_of (insts.Gep dst base ptr index) = Some dst
-result_of (insts.Alloca dst ty) = Some dst
-result_of (insts.Load dst ty ptr atomic) = Some dst
-result_of (insts.Rmw dst op ptr ty val) = Some dst
-result_of (insts.CmpXchg dst ptr ty old new) = Some dst
-result_of (insts.Extract dst elem pair index) = Some dst
-result_of (insts.Call dst ret callee args) = dst
-result_of (insts.Phi dst ty arms) = Some dst
-result_of inst = None
 
 -- what a block defines: its label, and its results in order
 abbrev pub results_of_block : Block → List Place

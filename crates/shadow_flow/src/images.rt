@@ -2,7 +2,6 @@
 ghost use Rattle.std.specs.Prelude.{◌≡◌, true, false, [], ◌∷◌, ◌++◌, Some, IfOk, OnOk};
 ghost use Rattle.hard_ir.specs.declared.instruction.HInst.TheVariants.{Do};
 ghost use Rattle.hard_ir.specs.Image.{unflagged, is_doubled, pair_of, single_result, copies, copy_of, done_by, flow, phi_image};
-ghost use Rattle.ir_check.specs.Blocks.{is_phi};
 ghost use Rattle.ir_core.specs.declared.values.Side.TheVariants as sides;
 
 use hard_ir::{HInst, HInsts, HPhis};
@@ -157,17 +156,11 @@ fn is_doubled(inst: &Inst) -> bool
     )
 }
 
-fn is_phi(inst: &Inst) -> bool
-    ensures { result ≡ is_phi inst.now }
-{
-    matches!(inst, Inst::Phi { .. })
-}
-
 // Adds what stands for an instruction.
 pub(crate) fn add_image(inst: &Inst, list: &mut HInsts, alloc: Global) -> Result<(), AllocError>
     ensures { OnOk result (list.new ≡ list.old ++ flow inst.now) }
 {
-    if is_phi(inst) {
+    if inst.is_phi() {
         return Ok(());
     }
     if is_doubled(inst) {
@@ -190,7 +183,7 @@ fn add_phi(side: Side, phi: &Inst, phis: &mut HPhis, alloc: Global) -> Result<()
 pub(crate) fn add_phis(inst: &Inst, phis: &mut HPhis, alloc: Global) -> Result<(), AllocError>
     ensures { OnOk result (phis.new ≡ phis.old ++ phi_image inst.now) }
 {
-    if is_phi(inst) {
+    if inst.is_phi() {
         add_phi(Side::M, inst, phis, alloc)?;
         add_phi(Side::S, inst, phis, alloc)?;
     }

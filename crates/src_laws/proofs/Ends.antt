@@ -5,7 +5,8 @@ use Rattle.ir_core.proofs.Lengths.{both_true}
 use Rattle.ir_core.specs.declared.instruction.Inst.{Inst}
 use Rattle.ir_core.specs.declared.instruction.Inst.TheVariants as insts
 use Rattle.ir_check.specs.Blocks.{is_terminator, ends_well}
-use Rattle.inst_meaning.specs.Phis.{is_phi, phi_count}
+use Rattle.inst_meaning.specs.Phis.{phi_count}
+use Rattle.ir_core.specs.Instructions.{is_phi}
 
 not-both : (b : Bool) → not b ≡ true → b ≡ true → ⊥
 not-both true e f = cc

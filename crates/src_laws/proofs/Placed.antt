@@ -9,7 +9,8 @@ use Rattle.ir_core.specs.declared.instruction.Block.{Block}
 use Rattle.ir_core.specs.Module.{ModuleParts, FuncParts}
 use Rattle.ir_layout.specs.Memory.{LayoutParts}
 use Rattle.ir_flow.specs.Edges.{number_of, edges_of}
-use Rattle.ir_flow.specs.Paths.{IsRoute, passes, assigned_by, is_reg, assigns, assigns_in, body_of, is_param, assigned_before}
+use Rattle.ir_flow.specs.Paths.{IsRoute, passes, is_reg, assigns, assigns_in, body_of, is_param, assigned_before}
+use Rattle.ir_core.specs.Instructions.{result_of}
 use Rattle.ir_check.specs.Blocks.{is_terminator}
 use Rattle.ir_check.specs.Faults.{IsAccepted}
 use Rattle.inst_meaning.specs.Phis.{phi_count, phis_of, phi_words, all_assigned}
@@ -47,25 +48,25 @@ or-first false b e = cc
 
 -- an instruction more
 assigns-next : (body : List Inst) (i : ℕ) (inst : Inst) (reg : Loc) → slice_get body i ≡ Some inst → assigns (take (suc i) body) reg ≡ true
-    → (assigns (take i body) reg ≡ true) ⊎ (is_reg reg (assigned_by inst) ≡ true)
+    → (assigns (take i body) reg ≡ true) ⊎ (is_reg reg (result_of inst) ≡ true)
 assigns-next [] i inst reg at e = cc
 assigns-next (x ∷ body) zero inst reg at e =
     let same : x ≡ inst = cc in
-    by_part (either (is_reg reg (assigned_by x)) false e) same
+    by_part (either (is_reg reg (result_of x)) false e) same
   where
-    by_part : (is_reg reg (assigned_by x) ≡ true) ⊎ (false ≡ true) → x ≡ inst → (false ≡ true) ⊎ (is_reg reg (assigned_by inst) ≡ true)
-    by_part (inl f) same = inr (ap (λ (y : Inst). is_reg reg (assigned_by y)) (sym same) ∙ f)
+    by_part : (is_reg reg (result_of x) ≡ true) ⊎ (false ≡ true) → x ≡ inst → (false ≡ true) ⊎ (is_reg reg (result_of inst) ≡ true)
+    by_part (inl f) same = inr (ap (λ (y : Inst). is_reg reg (result_of y)) (sym same) ∙ f)
     by_part (inr f) same = inl f
 assigns-next (x ∷ body) (suc i) inst reg at e =
-    by_part (either (is_reg reg (assigned_by x)) (assigns (take (suc i) body) reg) e) (assigns-next body i inst reg at)
+    by_part (either (is_reg reg (result_of x)) (assigns (take (suc i) body) reg) e) (assigns-next body i inst reg at)
   where
-    by_part : (is_reg reg (assigned_by x) ≡ true) ⊎ (assigns (take (suc i) body) reg ≡ true)
-        → (assigns (take (suc i) body) reg ≡ true → (assigns (take i body) reg ≡ true) ⊎ (is_reg reg (assigned_by inst) ≡ true))
-        → ((is_reg reg (assigned_by x) || assigns (take i body) reg) ≡ true) ⊎ (is_reg reg (assigned_by inst) ≡ true)
-    by_part (inl f) rest = inl (or-first (is_reg reg (assigned_by x)) (assigns (take i body) reg) f)
+    by_part : (is_reg reg (result_of x) ≡ true) ⊎ (assigns (take (suc i) body) reg ≡ true)
+        → (assigns (take (suc i) body) reg ≡ true → (assigns (take i body) reg ≡ true) ⊎ (is_reg reg (result_of inst) ≡ true))
+        → ((is_reg reg (result_of x) || assigns (take i body) reg) ≡ true) ⊎ (is_reg reg (result_of inst) ≡ true)
+    by_part (inl f) rest = inl (or-first (is_reg reg (result_of x)) (assigns (take i body) reg) f)
     by_part (inr f) rest =
-        elim (rest f) as (λ _. ((is_reg reg (assigned_by x) || assigns (take i body) reg) ≡ true) ⊎ (is_reg reg (assigned_by inst) ≡ true)) [
-          | inl g ↦ inl (or-later (is_reg reg (assigned_by x)) (assigns (take i body) reg) g)
+        elim (rest f) as (λ _. ((is_reg reg (result_of x) || assigns (take i body) reg) ≡ true) ⊎ (is_reg reg (result_of inst) ≡ true)) [
+          | inl g ↦ inl (or-later (is_reg reg (result_of x)) (assigns (take i body) reg) g)
           | inr g ↦ inr g
         ]
 
@@ -87,7 +88,7 @@ body-is blocks b block e = ap (λ (o : Option Block). option_map_or (λ (x : Blo
 
 -- a terminator assigns nothing, so the instructions before it assign whatever its block does
 pub before-terminator : (body : List Inst) (i : ℕ) (inst : Inst) (reg : Loc) → slice_get body i ≡ Some inst → length body ≡ suc i
-    → assigned_by inst ≡ None → assigns body reg ≡ true → assigns (take i body) reg ≡ true
+    → result_of inst ≡ None → assigns body reg ≡ true → assigns (take i body) reg ≡ true
 before-terminator body i inst reg at last none e =
     let all : take (suc i) body ≡ body = take_all (suc i) body (omega arith) in
     elim (assigns-next body i inst reg at (ap (λ (insts : List Inst). assigns insts reg) all ∙ e)) as (λ _. assigns (take i body) reg ≡ true) [
@@ -123,7 +124,7 @@ is-known f path b i reg (OnPath e) = or-later (assigned_before f b i reg) (passe
 
 -- what is known at the end of a block is known at its terminator
 pub known-at-end : (f : FuncParts) (path : List (ℕ × ℕ)) (b i : ℕ) (inst : Inst) (reg : Loc) → slice_get (body_of f.blocks b) i ≡ Some inst
-    → length (body_of f.blocks b) ≡ suc i → assigned_by inst ≡ None → is_known f path b (length (body_of f.blocks b)) reg ≡ true
+    → length (body_of f.blocks b) ≡ suc i → result_of inst ≡ None → is_known f path b (length (body_of f.blocks b)) reg ≡ true
     → is_known f path b i reg ≡ true
 known-at-end f path b i inst reg at last none e = is-known f path b i reg (earlier (known f path b (length (body_of f.blocks b)) reg e))
   where
@@ -139,7 +140,7 @@ known-at-end f path b i inst reg at last none e = is-known f path b i reg (earli
 -- behind an instruction that goes on
 pub behind : (m : ModuleParts) (n b i : ℕ) (registers given : List (Option ℕ)) (inst : Inst) (p : IsPlaced m n b i registers) → IsAccepted m
     → slice_get (body_of p.f.blocks b) i ≡ Some inst → is_terminator inst ≡ false → Keeps registers given
-    → ((reg : Loc) → is_reg reg (assigned_by inst) ≡ true → HasWord given reg) → IsPlaced m n b (suc i) given
+    → ((reg : Loc) → is_reg reg (result_of inst) ≡ true → HasWord given reg) → IsPlaced m n b (suc i) given
 behind m n b i registers given inst p accepted at goes keeps result = record {
   f = p.f;
   stands = p.stands;

@@ -11,7 +11,8 @@ use Rattle.ir_core.specs.declared.instruction.Inst.TheVariants as insts
 use Rattle.ir_core.specs.declared.instruction.Block.{Block}
 use Rattle.ir_core.specs.Module.{ModuleParts}
 use Rattle.ir_flow.specs.Edges.{labels_of, number_of, edges_of}
-use Rattle.ir_flow.specs.Paths.{IsEdge, assigned_by, body_of}
+use Rattle.ir_flow.specs.Paths.{IsEdge, body_of}
+use Rattle.ir_core.specs.Instructions.{result_of}
 use Rattle.ir_flow.specs.Uses.{reg_in, regs_in, arms_in, AllAssigned}
 use Rattle.ir_check.specs.Blocks.{is_terminator}
 use Rattle.ir_check.specs.Faults.{IsAccepted}
@@ -32,7 +33,7 @@ use Rattle.src_laws.proofs.Moves.{IsGood, blocks-are, at-place, source-sound}
 
 -- ---- the arm of a phi
 
-jumps : (inst : Inst) (label : Loc) → IsIn label (labels_of inst) → (is_terminator inst ≡ true) × (assigned_by inst ≡ None)
+jumps : (inst : Inst) (label : Loc) → IsIn label (labels_of inst) → (is_terminator inst ≡ true) × (result_of inst ≡ None)
 jumps (insts.Br to) label h = (refl, refl)
 jumps (insts.CondBr condition on_true on_false) label h = (refl, refl)
 jumps (insts.Switch ty on default cases) label h = (refl, refl)

@@ -22,7 +22,7 @@ use Rattle.ir_core.specs.Module.{ModuleParts}
 use Rattle.op_table.specs.declared.OpCause.{OpCause}
 use Rattle.ir_layout.specs.Memory.{LayoutParts}
 use Rattle.ir_flow.specs.Edges.{labels_of}
-use Rattle.ir_flow.specs.Paths.{assigned_by}
+use Rattle.ir_core.specs.Instructions.{result_of}
 use Rattle.ir_calls.specs.declared.externals.External.{External}
 use Rattle.ir_calls.specs.declared.externals.External.TheVariants.{PthreadCreate, PthreadJoin, MutexLock, MutexUnlock, Putchar, Exit as ExitProgram, Malloc, Free as FreeMemory, HaftOut, HaftArg}
 use Rattle.ir_calls.specs.Calls.{standing_of, external_named, takes, result_keeps, names_start, second_is_null, third_is_start, without_third, args_plain, args_keep, inst_keeps}
@@ -42,14 +42,14 @@ use Rattle.src_laws.proofs.Callees.{Enters, defined-told, outside-told, argument
 
 -- an instruction follows, and what it assigns takes its result
 abbrev pub GoesOn : Inst → Type 0
-GoesOn inst = (is_terminator inst ≡ false) × (assigned_by inst ≡ destination inst)
+GoesOn inst = (is_terminator inst ≡ false) × (result_of inst ≡ destination inst)
 
 abbrev pub HasNoResult : Inst → Type 0
 HasNoResult inst = GoesOn inst × (destination inst ≡ None)
 
 -- it jumps to one of its labels
 abbrev pub JumpsTo : Inst → Loc → Type 0
-JumpsTo inst label = (is_terminator inst ≡ true) × (assigned_by inst ≡ None) × IsIn label (labels_of inst)
+JumpsTo inst label = (is_terminator inst ≡ true) × (result_of inst ≡ None) × IsIn label (labels_of inst)
 
 abbrev pub Suits : ModuleParts → Inst → Action → Type 0
 Suits m inst (Assign n) = GoesOn inst

@@ -9,8 +9,10 @@ use Rattle.ir_core.specs.declared.types.Loc.{Loc}
 use Rattle.ir_core.specs.declared.instruction.Inst.{Inst}
 use Rattle.ir_core.specs.declared.instruction.Inst.TheVariants as insts
 use Rattle.ir_layout.specs.Memory.{LayoutParts}
-use Rattle.ir_flow.specs.Paths.{is_reg, assigned_by, assigns}
+use Rattle.ir_flow.specs.Paths.{is_reg, assigns}
+use Rattle.ir_core.specs.Instructions.{result_of}
 use Rattle.inst_meaning.specs.Registers.{get, put}
+use Rattle.inst_meaning.proofs.Puts.{put-here}
 use Rattle.inst_meaning.specs.Phis.{phi_word, phi_words, phi_words_with, assigned, all_assigned}
 use Rattle.src_laws.specs.Assigned.{HasWord}
 
@@ -25,14 +27,8 @@ put-keeps (old ∷ registers) zero word (suc k) h = h
 put-keeps (old ∷ registers) (suc at) word zero h = h
 put-keeps (old ∷ registers) (suc at) word (suc k) h = put-keeps registers at word k h
 
-put-here : (registers : List (Option ℕ)) (at word : ℕ) → is_some (get (put registers at word) at) ≡ true
-put-here [] zero word = refl
-put-here [] (suc at) word = put-here [] at word
-put-here (old ∷ registers) zero word = refl
-put-here (old ∷ registers) (suc at) word = put-here registers at word
-
 put-there : (registers : List (Option ℕ)) (at word k : ℕ) → nat_eq at k ≡ true → is_some (get (put registers at word) k) ≡ true
-put-there registers at word k e = ap (λ (j : ℕ). is_some (get (put registers at word) j)) (sym (eqb-true at k e)) ∙ put-here registers at word
+put-there registers at word k e = ap (λ (j : ℕ). is_some (get (put registers at word) j)) (sym (eqb-true at k e)) ∙ ap is_some (put-here registers at word)
 
 pub assigned-keeps : (dst : Option Loc) (n : ℕ) (registers : List (Option ℕ)) → Keeps registers (assigned dst n registers)
 assigned-keeps None n registers reg h = h
@@ -92,7 +88,7 @@ named dst None word e = cc
 named dst (Some n) word e = let pair : (dst, n) ≡ word = cc in ap (λ (p : Loc × ℕ). Some p.0) pair
 
 phi-named : (l : LayoutParts) (registers : List (Option ℕ)) (label : Loc) (inst : Inst) (word : Loc × ℕ) → phi_word l registers label inst ≡ Some word
-    → assigned_by inst ≡ Some word.0
+    → result_of inst ≡ Some word.0
 phi-named l registers label (insts.Phi dst ty arms) word e = named dst _ word e
 phi-named l registers label other word e = cc
 
@@ -102,6 +98,6 @@ pub phis-given : (l : LayoutParts) (registers : List (Option ℕ)) (label : Loc)
 phis-given l registers label [] words reg e any = cc
 phis-given l registers label (phi ∷ phis) words reg e any =
     let parts = given (phi_word l registers label phi) (phi_words l registers label phis) words e in
-    let name : assigned_by phi ≡ Some parts.first.0 = phi-named l registers label phi parts.first parts.here in
+    let name : result_of phi ≡ Some parts.first.0 = phi-named l registers label phi parts.first parts.here in
     let one : (nat_eq parts.first.0.0 reg.0 || assigns phis reg) ≡ true = ap (λ (o : Option Loc). is_reg reg o || assigns phis reg) (sym name) ∙ any in
     rw parts.all (either-way (nat_eq parts.first.0.0 reg.0) one (phis-given l registers label phis parts.others reg parts.there))

@@ -6,23 +6,8 @@ use Rattle.ir_core.specs.declared.instruction.Block.{Block}
 use Rattle.ir_core.specs.Module.{FuncParts}
 use Rattle.inst_meaning.specs.Registers.{get, put}
 use Rattle.ir_flow.proofs.Labelled.{numbers-more}
+use Rattle.inst_meaning.proofs.Puts.{put-here, put-elsewhere}
 use Rattle.src_meaning.specs.Labels.{IsTable, AreTables}
-
-put-here : (table : List (Option ℕ)) (at number : ℕ) → get (put table at number) at ≡ Some number
-put-here [] zero number = refl
-put-here [] (suc at) number = put-here [] at number
-put-here (x ∷ table) zero number = refl
-put-here (x ∷ table) (suc at) number = put-here table at number
-
-put-elsewhere : (table : List (Option ℕ)) (at number k : ℕ) → (at ≡ k → ⊥) → get (put table at number) k ≡ get table k
-put-elsewhere [] zero number zero h = absurd (h refl)
-put-elsewhere [] zero number (suc k) h = refl
-put-elsewhere [] (suc at) number zero h = refl
-put-elsewhere [] (suc at) number (suc k) h = put-elsewhere [] at number k (λ e. h (ap suc e))
-put-elsewhere (x ∷ table) zero number zero h = absurd (h refl)
-put-elsewhere (x ∷ table) zero number (suc k) h = refl
-put-elsewhere (x ∷ table) (suc at) number zero h = refl
-put-elsewhere (x ∷ table) (suc at) number (suc k) h = put-elsewhere table at number k (λ e. h (ap suc e))
 
 -- the table of one more block
 pub IsTable-more : (blocks : List Block) (i : ℕ) (block : Block) (table grown : List (Option ℕ)) → i < length blocks → block ≡ get_or blocks i block → grown ≡ put table block.label.0 i → IsTable (take i blocks) table → IsTable (take (i + 1) blocks) grown

@@ -1,6 +1,6 @@
 use Rattle.std.proofs.Common.{◌≡◌, drop}
 use Rattle.std.specs.List.{list_any}
-use Rattle.ir_check.specs.Blocks.{is_phi}
+use Rattle.ir_core.specs.Instructions.{is_phi}
 use Rattle.ir_check.proofs.blocks.has_phi.Given as goal
 
 abbrev pub invariant-loop-inst : goal.invariant-loop-inst

@@ -3,7 +3,8 @@ use Rattle.std.specs.List.{flat_map}
 use Rattle.ir_core.specs.declared.instruction.Inst.{Inst}
 use Rattle.ir_numbering.specs.declared.places.Place.{Place}
 use Rattle.ir_numbering.specs.declared.places.Place.TheVariants.{Local}
-use Rattle.ir_numbering.specs.Places.{result_of, places_of_option}
+use Rattle.ir_numbering.specs.Places.{places_of_option}
+use Rattle.ir_core.specs.Instructions.{result_of}
 use Rattle.ir_numbering.proofs.functions.add_results.Given as goal
 
 abbrev defined : List Inst → List Place
