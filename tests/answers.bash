@@ -1,4 +1,5 @@
-# What the tests of one command share: running the program, and comparing what it writes.
+# What the tests share: running the program, and comparing what it writes. A test may stand in any folder: what the program writes, and
+# what is wanted, are kept in the test's own.
 # The program is crates/haft/out/haft, or $HAFT.
 
 setup() {
@@ -14,19 +15,25 @@ answer() {
     (
         [ -z "${memory:-}" ] || ulimit -v "$memory"
         exec timeout "$seconds" "$program" "$@"
-    ) >written 2>complaint || status=$?
+    ) >"$BATS_TEST_TMPDIR/written" 2>"$BATS_TEST_TMPDIR/complaint" || status=$?
 }
 
-# answered STATUS LINE..: the last answer had this status and wrote exactly these lines, and nothing on standard error.
+# answered_file STATUS FILE: the last answer had this status and wrote exactly this file, and nothing on standard error.
+answered_file() {
+    local written=$BATS_TEST_TMPDIR/written
+    if [ "$status" -ne "$1" ] || ! cmp -s "$written" "$2" || [ -s "$BATS_TEST_TMPDIR/complaint" ]; then
+        echo "status $status: $(head -c 300 "$written" | tr '\n' '|')"
+        echo "wanted $1: $(head -c 300 "$2" | tr '\n' '|')"
+        return 1
+    fi
+}
+
+# answered STATUS LINE..: the same, for these lines.
 answered() {
     local wanted=$1
     shift
-    if [ "$#" -gt 0 ]; then printf '%s\n' "$@"; fi >wanted
-    if [ "$status" -ne "$wanted" ] || ! cmp -s written wanted || [ -s complaint ]; then
-        echo "status $status: $(head -c 300 written)"
-        echo "wanted $wanted: $(<wanted)"
-        return 1
-    fi
+    if [ "$#" -gt 0 ]; then printf '%s\n' "$@"; fi >"$BATS_TEST_TMPDIR/wanted"
+    answered_file "$wanted" "$BATS_TEST_TMPDIR/wanted"
 }
 
 # lines_of TEXT: its lines, where ` | ` stands between two.
@@ -37,11 +44,24 @@ told() {
     lines_of "$1" >schedule
     lines_of "$2" >report
     answer "$command" module.ll schedule
-    if [ "$status" -ne 0 ] || ! cmp -s written report || [ -s complaint ]; then
-        echo "status $status: $(head -c 300 written | tr '\n' '|')"
-        echo "wanted: $(tr '\n' '|' <report)"
-        return 1
-    fi
+    answered_file 0 report
+}
+
+# A loop that no schedule ends: one step, and then three a round, the sum, the comparison and the branch.
+loop() {
+    cat <<'LL'
+define i32 @main() {
+entry:
+  br label %l
+l:
+  %i = phi i64 [ 0, %entry ], [ %j, %l ]
+  %j = add i64 %i, 1
+  %c = icmp ult i64 %j, 100000000
+  br i1 %c, label %l, label %d
+d:
+  ret i32 0
+}
+LL
 }
 
 # asked LINE: the schedule and the report of a line that asks for $command, in $ask.

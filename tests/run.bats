@@ -71,24 +71,7 @@ seconds=60
     answered 1 "refused schedule 2"
 }
 
-# A loop of six turns a round, which stand for three steps of the source, behind one turn.
-loop() {
-    cat <<'LL'
-define i32 @main() {
-entry:
-  br label %l
-l:
-  %i = phi i64 [ 0, %entry ], [ %j, %l ]
-  %j = add i64 %i, 1
-  %c = icmp ult i64 %j, 100000000
-  br i1 %c, label %l, label %d
-d:
-  ret i32 0
-}
-LL
-}
-
-# 4,194,304 turns are one, 699,050 whole rounds, and three turns of another: a sum and the master of its comparison.
+# A round takes six turns. 4,194,304 turns are one, 699,050 whole rounds, and three turns of another: a sum and the master of its comparison.
 greatest="aborts 0 0 0 0 | stop bound | src 0*$((1 + 3 * 699050 + 1))"
 
 @test "the greatest schedule" {

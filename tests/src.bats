@@ -79,23 +79,6 @@ seconds=60
     answered 1 "refused long second"
 }
 
-# A loop of four steps a round, the first behind one step.
-loop() {
-    cat <<'LL'
-define i32 @main() {
-entry:
-  br label %l
-l:
-  %i = phi i64 [ 0, %entry ], [ %j, %l ]
-  %j = add i64 %i, 1
-  %c = icmp ult i64 %j, 100000000
-  br i1 %c, label %l, label %d
-d:
-  ret i32 0
-}
-LL
-}
-
 @test "the greatest schedule" {
     loop >module.ll
     told "turn 0 4194304" "stop bound | src 0*4194304"

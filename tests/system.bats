@@ -7,42 +7,13 @@
 #
 # The program is crates/haft/out/haft, or $HAFT.
 
-setup() {
-    tests=$BATS_TEST_DIRNAME
-    program=$(realpath -e "${HAFT:-$tests/../crates/haft/out/haft}")
-    sum=$tests/../examples/sum.ll
-    cd "$BATS_TEST_TMPDIR"
-}
+load answers
+
+seconds=20
+sum=$BATS_TEST_DIRNAME/../examples/sum.ll
 
 # The most bytes that a file may have.
 greatest_size=4194304
-
-# answer WORD.. runs the program, and keeps what it writes and its status. The program has 20 seconds, and as many
-# KiB of address space as $memory says, if it is set.
-answer() {
-    status=0
-    (
-        [ -z "${memory:-}" ] || ulimit -v "$memory"
-        exec timeout 20 "$program" "$@"
-    ) >"$BATS_TEST_TMPDIR/written" 2>"$BATS_TEST_TMPDIR/complaint" || status=$?
-}
-
-# answered STATUS FILE: the last answer had this status and wrote exactly this file, and nothing on standard error.
-answered() {
-    if [ "$status" -ne "$1" ]; then
-        echo "status $status, not $1"
-        return 1
-    fi
-    cmp "$BATS_TEST_TMPDIR/written" "$2" && cmp "$BATS_TEST_TMPDIR/complaint" /dev/null
-}
-
-# answered_lines STATUS LINE..: the same, for these lines.
-answered_lines() {
-    local wanted=$1
-    shift
-    if [ "$#" -gt 0 ]; then printf '%s\n' "$@"; fi >"$BATS_TEST_TMPDIR/wanted"
-    answered "$wanted" "$BATS_TEST_TMPDIR/wanted"
-}
 
 size_of() { stat -c %s "$1"; }
 
@@ -110,7 +81,7 @@ many_bits() {
         cd "$folder"
         mapfile -t words <words
         answer "${words[@]}"
-        if ! answered "$(<status)" stdout; then
+        if ! answered_file "$(<status)" stdout; then
             echo "  at cases/$(basename "$folder")"
             failed=$((failed + 1))
         fi
@@ -127,39 +98,39 @@ many_bits() {
         [ "${name%.src}" = "$name" ] || continue
         echo "$name"
         answer run "$examples/${name%%.*}.ll" "$examples/$name.sched"
-        answered 0 "$report"
+        answered_file 0 "$report"
     done
 }
 
 @test "a first file of more than 4 MiB is refused before the second is read" {
     head -c $((greatest_size + 1)) /dev/zero >first
     answer run first missing
-    answered_lines 1 "refused long first"
+    answered 1 "refused long first"
 }
 
 @test "a second file of more than 4 MiB is refused before the text of the first is looked at" {
     echo "no module" >first
     head -c $((greatest_size + 1)) /dev/zero >second
     answer run first second
-    answered_lines 1 "refused long second"
+    answered 1 "refused long second"
 }
 
 @test "an endless first file is refused" {
     answer run /dev/zero missing
-    answered_lines 1 "refused long first"
+    answered 1 "refused long first"
 }
 
 @test "a first file of exactly 4 MiB is read, and refused for its text" {
     head -c $greatest_size /dev/zero >first
     echo "turn 0 1" >second
     answer run first second
-    answered_lines 1 "refused text 1 byte 1"
+    answered 1 "refused text 1 byte 1"
 }
 
 @test "a second file of exactly 4 MiB is read, and refused for its text" {
     head -c $greatest_size /dev/zero >second
     answer run "$sum" second
-    answered_lines 1 "refused schedule 1"
+    answered 1 "refused schedule 1"
 }
 
 @test "a text of 4 MiB with 65,000 sums runs to its end within 20 seconds" {
@@ -168,14 +139,14 @@ many_bits() {
     # two turns for each sum, the check, the output, the return, the exit
     echo "turn 0 $((2 * 65000 + 4))" >second
     answer run first second
-    answered_lines 0 "out 65000" "aborts 0 0 0 0" "stop end 9" "src 0*65003"
+    answered 0 "out 65000" "aborts 0 0 0 0" "stop end 9" "src 0*65003"
 }
 
 @test "one turn fewer than a text of 4 MiB needs stops before its exit" {
     sums 65000 >first
     echo "turn 0 $((2 * 65000 + 3))" >second
     answer run first second
-    answered_lines 0 "out 65000" "aborts 0 0 0 0" "stop bound" "src 0*65002"
+    answered 0 "out 65000" "aborts 0 0 0 0" "stop bound" "src 0*65002"
 }
 
 @test "a text of 4 MiB with a fault in its last line is refused within 20 seconds" {
@@ -184,7 +155,7 @@ many_bits() {
     echo "turn 0 1" >second
     answer run first second
     # two lines before the sums, two behind them, and the one that is missing
-    answered_lines 1 "refused text $((2 + 65000 + 2 + 1)) end"
+    answered 1 "refused text $((2 + 65000 + 2 + 1)) end"
 }
 
 @test "a text of nearly 4 MiB with 161,000 outputs writes them all within 20 seconds" {
@@ -193,14 +164,14 @@ many_bits() {
     echo "turn 0 161002" >second
     answer run first second
     { yes "out 1" | head -n 161000; printf 'aborts 0 0 0 0\nstop end 0\nsrc 0*161002\n'; } >wanted_report
-    answered 0 wanted_report
+    answered_file 0 wanted_report
 }
 
 @test "4,194,304 turns over a text of 4 MiB end within 20 seconds" {
     sums 65000 >first
     echo "turn 0 4194304" >second
     answer run first second
-    answered_lines 0 "out 65000" "aborts 0 0 0 0" "stop end 9" "src 0*65003"
+    answered 0 "out 65000" "aborts 0 0 0 0" "stop end 9" "src 0*65003"
 }
 
 @test "a schedule of 4 MiB with 466,033 lines runs within 20 seconds" {
@@ -210,7 +181,7 @@ many_bits() {
     constants 100000 >first
     answer run first second
     { yes "out 1" | head -n 100000; printf 'aborts 0 0 0 0\nstop end 0\nsrc 0*100002\n'; } >wanted_report
-    answered 0 wanted_report
+    answered_file 0 wanted_report
 }
 
 @test "a function with as many names as it may have runs to its end within 20 seconds" {
@@ -218,11 +189,11 @@ many_bits() {
     short_sums 65535 >first
     echo "turn 0 $((2 * 65535 + 2))" >second
     answer run first second
-    answered_lines 0 "aborts 0 0 0 0" "stop end 0" "src 0*65537"
+    answered 0 "aborts 0 0 0 0" "stop end 0" "src 0*65537"
 
     short_sums 65536 >first
     answer run first second
-    answered_lines 1 "refused module Limit.Registers @main"
+    answered 1 "refused module Limit.Registers @main"
 }
 
 # Memory takes no more than address space does; of this, 64 MiB are for the program itself.
@@ -232,16 +203,16 @@ many_bits() {
 
     sums 65000 >first
     answer run first second
-    answered_lines 0 "out 65000" "aborts 0 0 0 0" "stop end 9" "src 0*65003"
+    answered 0 "out 65000" "aborts 0 0 0 0" "stop end 9" "src 0*65003"
 
     short_sums 65535 >first
     answer run first second
-    answered_lines 0 "aborts 0 0 0 0" "stop end 0" "src 0*65537"
+    answered 0 "aborts 0 0 0 0" "stop end 0" "src 0*65537"
 
     constants 161000 >first
     answer run first second
     { yes "out 1" | head -n 161000; printf 'aborts 0 0 0 0\nstop end 0\nsrc 0*161002\n'; } >wanted_report
-    answered 0 wanted_report
+    answered_file 0 wanted_report
 }
 
 @test "texts of 4 MiB that aren't accepted are refused within the same memory" {
@@ -254,7 +225,7 @@ many_bits() {
         [ "$(size_of first)" -gt $((greatest_size - 60000)) ]
         [ "$(size_of first)" -le $greatest_size ]
         answer run first second
-        answered_lines 1 "$line"
+        answered 1 "$line"
     done <<'END'
 functions refused module BadTerminator f1/0
 labels refused module Limit.Registers @main
@@ -269,13 +240,13 @@ END
     # the text alone has 4 MiB, and the program with its library 3
     memory=$((8 * 1024))
     answer run first second
-    answered_lines 5
+    answered 5
     for mebibytes in 12 16 24 32 48 64 96 128 192; do
         echo "$mebibytes MiB"
         memory=$((mebibytes * 1024))
         answer run first second
-        [ "$status" -eq 0 ] || answered_lines 5
-        [ "$status" -eq 5 ] || answered_lines 0 "out 65000" "aborts 0 0 0 0" "stop end 9" "src 0*65003"
+        [ "$status" -eq 0 ] || answered 5
+        [ "$status" -eq 5 ] || answered 0 "out 65000" "aborts 0 0 0 0" "stop end 9" "src 0*65003"
     done
 }
 
@@ -306,9 +277,9 @@ END
     mkdir folder
     echo "turn 0 40" >second
     answer run folder second
-    answered_lines 3
+    answered 3
     answer run "$sum" folder
-    answered_lines 3
+    answered 3
 }
 
 @test "a file that this user may not read ends with status 3, and nothing is written" {
@@ -316,16 +287,16 @@ END
     chmod 000 second
     [ ! -r second ] || skip "this user may read every file"
     answer run "$sum" second
-    answered_lines 3
+    answered 3
 }
 
 @test "a name below a file ends with status 3, and nothing is written" {
     echo "turn 0 40" >second
     answer run "$sum" second/second
-    answered_lines 3
+    answered 3
 }
 
 @test "a pipe that gives its text in two parts is read to its end" {
     answer run <(head -c 50 "$sum"; sleep 0.2; tail -c +51 "$sum") <(printf 'turn 0 '; sleep 0.2; echo 40)
-    answered_lines 0 "out 5" "aborts 0 0 0 0" "stop end 0" "src 0*4"
+    answered 0 "out 5" "aborts 0 0 0 0" "stop end 0" "src 0*4"
 }
