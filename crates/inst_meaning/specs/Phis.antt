@@ -2,7 +2,7 @@
 --
 -- Choices: the phis at the head of a block take the words that their registers have at the end of the block before, all at once. The
 -- first arm with that block's label counts; in an accepted module all such arms are equal.
-use Rattle.std.specs.Prelude.{ℕ, Bool, true, false, List, [], ◌∷◌, Option, Some, None, nat_eq, take, find}
+use Rattle.std.specs.Prelude.{ℕ, List, [], ◌∷◌, Option, Some, None, nat_eq, take, find}
 use Rattle.std.specs.List.{prefix_len}
 use Rattle.std.specs.Option.{option_map, option_and_then}
 use Rattle.ir_core.specs.declared.types.Loc.{Loc}

@@ -1,7 +1,6 @@
 //! How blocks begin and end, and that nothing leads to the entry (`specs/Blocks.antt`).
-ghost use Rattle.std.specs.Prelude.{◌≡◌, not, IfOk, map};
+ghost use Rattle.std.specs.Prelude.{◌≡◌, IfOk, map};
 ghost use Rattle.std.specs.List.{list_any};
-ghost use Rattle.ir_flow.specs.Edges.{edges_of};
 ghost use Rattle.ir_check.specs.Blocks.{is_terminator, ends_well, begins_well, enters};
 ghost use Rattle.ir_core.specs.Instructions.{is_phi};
 

@@ -9,9 +9,7 @@ use Rattle.ir_core.proofs.Numbering.{length-numbered}
 use Rattle.ir_core.specs.TokenLengths.{name_from}
 use Rattle.ir_numbering.specs.declared.places.Place.{Place}
 use Rattle.ir_numbering.specs.declared.places.Place.TheVariants.{Local, Struct, Global}
-use Rattle.ir_numbering.specs.Numbers.{locals_at, structs_at, globals_at, with_names, module_with, func_with, ModuleFront, FuncFront, HasFront, HasRoom, renaming_of, numbered_func}
-use Rattle.ir_numbering.specs.Places.{places_of_func}
-use Rattle.ir_numbering.specs.Renaming.{renamed_func}
+use Rattle.ir_numbering.specs.Numbers.{locals_at, structs_at, globals_at, with_names, module_with, func_with, ModuleFront, FuncFront, HasFront, HasRoom}
 
 -- ---- the names at places
 
@@ -131,21 +129,6 @@ module _ (text : List ℕ) (places : List Place) (i : ℕ) (h : i < length place
       let names = ap (λ f. length f.names) e in
       let taken = length-take i places in
       omega (arith, names_within text (take i places) f)
-
--- a function whose table was empty, and takes the names twice: once to number by, and once in the answer
-pub numbered_func-is : (text : List ℕ) (m : ModuleParts) (tree table : FuncParts) → table.names ≡ [] → func_with text (places_of_func tree) (renamed_func (renaming_of text m (func_with text (places_of_func tree) table)) tree) ≡ numbered_func text m tree
-numbered_func-is text m tree table e = ap (λ (start : List (List ℕ)). func_with text (places_of_func tree) (renamed_func (renaming_of text m (record tree { names = with_names start (locals_at text (places_of_func tree)) })) tree)) e
-
-pub numbered_func-by : (text : List ℕ) (m : ModuleParts) (tree table table' : FuncParts) (places : List Place) (f g : FuncParts) → table.names ≡ [] → places ≡ places_of_func tree → table' ≡ func_with text places table → f ≡ renamed_func (renaming_of text m table') tree → g ≡ func_with text places f → g ≡ numbered_func text m tree
-numbered_func-by text m tree table table' places f g start all taken renamed e =
-    e ∙ ap (func_with text places) (renamed ∙ ap (λ (t : FuncParts). renamed_func (renaming_of text m t) tree) taken)
-    ∙ ap (λ (ps : List Place). func_with text ps (renamed_func (renaming_of text m (func_with text ps table)) tree)) all ∙ numbered_func-is text m tree table start
-
--- the names that a table took from no name on are those that another such table takes
-pub func_with-copied : (text : List ℕ) (places : List Place) (table table' f : FuncParts) → table.names ≡ [] → f.names ≡ [] → table' ≡ func_with text places table → record f { names = table'.names } ≡ func_with text places f
-func_with-copied text places table table' f start bare taken =
-    ap (λ names. record f { names = names })
-    (ap (λ (t : FuncParts). t.names) taken ∙ ap (λ names. with_names names (locals_at text places)) (start ∙ sym bare))
 
 -- a front in the module, and none in the function
 pub HasFront-outer : (text : List ℕ) (places all : List Place) (m m' : ModuleParts) (f : FuncParts) → places ≡ all → ModuleFront text places m m' → HasFront text all m f m' f

@@ -4,7 +4,7 @@ ghost use Rattle.std.specs.List.{flat_map};
 ghost use Rattle.ir_core.specs.Module.{empty_module};
 ghost use Rattle.ir_numbering.specs.Places.{places_of_func};
 ghost use Rattle.ir_numbering.specs.Renaming.{renamed_global, renamed_declare};
-ghost use Rattle.ir_numbering.specs.Numbers.{renaming_outside, module_with, numbered_func, places_of_module, renamed_named, parts_by, numbered_module};
+ghost use Rattle.ir_numbering.specs.Numbers.{renaming_outside, module_with, numbered_func, places_of_module, renamed_named, numbered_module};
 
 use crate::Places;
 use crate::functions::{add_places_of_func, numbered_func};

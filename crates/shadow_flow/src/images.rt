@@ -1,7 +1,7 @@
 //! What stands for one instruction.
 ghost use Rattle.std.specs.Prelude.{◌≡◌, true, false, [], ◌∷◌, ◌++◌, Some, IfOk, OnOk};
 ghost use Rattle.hard_ir.specs.declared.instruction.HInst.TheVariants.{Do};
-ghost use Rattle.hard_ir.specs.Image.{unflagged, is_doubled, pair_of, single_result, copies, copy_of, done_by, flow, phi_image};
+ghost use Rattle.hard_ir.specs.Image.{unflagged, is_doubled, pair_of, single_result, copies, done_by, flow, phi_image};
 ghost use Rattle.ir_core.specs.declared.values.Side.TheVariants as sides;
 
 use hard_ir::{HInst, HInsts, HPhis};
