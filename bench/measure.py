@@ -7,7 +7,7 @@ import sys
 import time
 
 
-def least(command, output=os.devnull, wanted=0):
+def least(command, output=os.devnull):
     """The least of five times in seconds, and the most memory in bytes; what the command writes goes to a file."""
     best, most = None, 0
     for _ in range(5):
@@ -17,7 +17,7 @@ def least(command, output=os.devnull, wanted=0):
         pid = os.posix_spawnp(command[0], command, os.environ, file_actions=files)
         _, status, used = os.wait4(pid, 0)
         took = time.monotonic() - begun
-        if status != wanted:
+        if status != 0:
             sys.exit(f"{command} ended with {status}")
         best = took if best is None else min(best, took)
         most = max(most, used.ru_maxrss * 1024)
