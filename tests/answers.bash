@@ -73,7 +73,7 @@ asked() {
     esac
 }
 
-# all_told GROUP runs each module of a group, and names those of which $command tells something else.
+# all_told GROUP [FILE] runs each module of a group, which may stand in another file, and names those of which $command reports something else.
 #
 # A group is a file of programs/. Its first lines say what it is about; behind them each module has a line `== NAME`, its own lines,
 # and lines that ask for reports: `-- SCHEDULE => REPORT` for `src`, `-- run SCHEDULE => REPORT` for `run`, where ` | ` stands between
@@ -96,7 +96,14 @@ all_told() {
                 ;;
             *) printf '%s\n' "$line" >>module.ll ;;
         esac
-    done <"$tests/programs/$1.txt"
+    done <"${2:-$tests/programs/$1.txt}"
     echo "$failed of $count failed"
     [ "$count" -gt 0 ] && [ "$failed" -eq 0 ]
+}
+
+# all_operators does the same for the programs of operators.py.
+all_operators() {
+    command -v python3 >/dev/null || skip "python3, which makes the programs, is not installed"
+    python3 "$tests/operators.py" >operators
+    all_told operators operators
 }

@@ -1,33 +1,59 @@
 #!/usr/bin/env bats
 # Tests of the launcher `haft`, in a tree of its own with a stand-in for `rt`, so that nothing is proved or built here.
-# The stand-in notes its words and, unless $NOT_PROVED is set, makes a program that prints `new` and its words.
+# The stand-in notes its words. For `all check` it writes the file $SAID, as `rt` does while crates are proved. For `run` it makes a
+# program that prints `new` and its words. With $NOT_PROVED it fails at either.
 
 setup() {
     top=$(realpath "$BATS_TEST_TMPDIR")/checkout
     program=$top/crates/haft/out/haft
     mkdir -p "$top"/crates/{haft,lower}/src "$top"/crates/lower/proofs/function "$top"/crates/haft/out "$BATS_TEST_TMPDIR/bin"
     cp "$BATS_TEST_DIRNAME/../haft" "$top/haft"
+    printf '%s\n' '# one line a crate' 'lower: std_thing' 'haft: lower middle' 'middle: lower' 'of_tests: haft lower' >"$top/crates.txt"
     touch -d '1 hour ago' "$top/crates.txt" "$top"/crates/{haft,lower}/src/main.rt
     find "$top/crates" -exec touch -d '1 hour ago' {} +
 
     cat >"$BATS_TEST_TMPDIR/bin/rt" <<'END'
 #!/bin/sh
 echo "$PWD $*" >>"$CALLS"
+[ "$1" != all ] || cat "$SAID"
+[ -z "${NOT_PROVED:-}" ] || exit 1
+[ "$1" != all ] || exit 0
 echo "rt: proving" >&2
 echo "from the program"
-[ -z "${NOT_PROVED:-}" ] || exit 1
 printf '#!/bin/sh\necho new "$@"\nexit 5\n' >out/haft
 chmod +x out/haft
 END
     chmod +x "$BATS_TEST_TMPDIR/bin/rt"
-    export CALLS=$BATS_TEST_TMPDIR/calls
+    export CALLS=$BATS_TEST_TMPDIR/calls SAID=$BATS_TEST_TMPDIR/said
     touch "$CALLS"
+    say_proved
     without_rt=$BATS_TEST_TMPDIR/tools
     with_rt=$BATS_TEST_TMPDIR/bin:$without_rt
     mkdir "$without_rt"
-    for tool in bash sh env chmod date dirname find readlink sleep touch; do
+    for tool in bash sh env cat chmod date dirname find mkdir nproc readlink sleep tee touch; do
         ln -s "$(command -v "$tool")" "$without_rt/$tool"
     done
+}
+
+# What `rt` writes of three crates, the first of which was proved before.
+say_proved() {
+    cat >"$SAID" <<'END'
+rt: chose 2 at a time
+== lower
+== middle
+so far: 3 of 9 functions checked
+fn middle::f: proved
+logic=proved functions=9
+by-macro: none
+== haft
+fn haft::main: proved
+logic=proved functions=1
+== summary
+lower: ok
+middle: ok
+haft: ok
+3 of 3 crates ok
+END
 }
 
 # A program that was built after its last edit.
@@ -69,11 +95,38 @@ wrote() { [ "$(<"$BATS_TEST_TMPDIR/written")" = "$1" ]; }
     [ "$status" -eq 5 ]
     wrote "new run first second"
     grep -q "proving and building" "$BATS_TEST_TMPDIR/complaint"
-    [ "$(<"$CALLS")" = "$top/crates/haft run -- run $top/examples/sum.ll $top/examples/sum.sched" ]
+    [ "$(tail -1 "$CALLS")" = "$top/crates/haft run -- run $top/examples/sum.ll $top/examples/sum.sched" ]
 
     launch "$with_rt" again
     wrote "new again"
     [ ! -s "$BATS_TEST_TMPDIR/complaint" ]
+    [ "$(wc -l <"$CALLS")" -eq 2 ]
+}
+
+@test "the crates that the program needs are proved side by side, no more at once than processors and memory allow" {
+    launch "$with_rt" run first second
+    [[ $(head -1 "$CALLS") =~ ^"$top/crates/haft all check --jobs "([1-9][0-9]*)$ ]]
+    [ "${BASH_REMATCH[1]}" -le "$(nproc)" ]
+    [ "${BASH_REMATCH[1]}" -eq 1 ] || [ $((3000000 * BASH_REMATCH[1])) -le "$(awk '/^MemTotal:/ { print $2 }' /proc/meminfo)" ]
+}
+
+@test "a line is written as each crate is proved, and what the prover says is kept in a file" {
+    launch "$with_rt" run first second
+    [ "$(grep -c . "$BATS_TEST_TMPDIR/complaint")" -eq 5 ]
+    [ "$(tail -3 "$BATS_TEST_TMPDIR/complaint")" = $'haft: proved 1 of 3: lower\nhaft: proved 2 of 3: middle\nhaft: proved 3 of 3: haft' ]
+    grep -q "kept in $top/crates/haft/out/proofs.log" "$BATS_TEST_TMPDIR/complaint"
+    grep -q "so far: 3 of 9" "$top/crates/haft/out/proofs.log"
+    grep -q "rt: proving" "$top/crates/haft/out/proofs.log"
+}
+
+@test "a crate that is not proved is named, and the file with what the prover says of it" {
+    sed -i '/^logic=proved functions=9/d; s/^fn middle::f: proved/fn middle::f: not proved/; /^== haft/,/^logic=proved/d' "$SAID"
+    export NOT_PROVED=1
+    launch "$with_rt" run first second
+    [ "$status" -eq 126 ]
+    grep -q "^haft: proved 1 of 3: lower$" "$BATS_TEST_TMPDIR/complaint"
+    grep -q "^haft: middle was not proved; see the line '== middle' in $top/crates/haft/out/proofs.log$" "$BATS_TEST_TMPDIR/complaint"
+    ! grep -q "proved .* of 3: haft" "$BATS_TEST_TMPDIR/complaint"
     [ "$(wc -l <"$CALLS")" -eq 1 ]
 }
 
@@ -109,7 +162,7 @@ wrote() { [ "$(<"$BATS_TEST_TMPDIR/written")" = "$1" ]; }
     sed -i '2i sleep 0.1; touch ../lower/src/main.rt' "$BATS_TEST_TMPDIR/bin/rt"
     launch "$with_rt"
     launch "$with_rt"
-    [ "$(wc -l <"$CALLS")" -eq 2 ]
+    [ "$(wc -l <"$CALLS")" -eq 4 ]
 }
 
 @test "sources that are not proved end with status 126, and no older program is run" {

@@ -1,7 +1,9 @@
-"""The tables of crates/reader_tests/src/operators.rt, worked out from the LLVM Language Reference.
+"""Programs of operators with their reports, worked out from the LLVM Language Reference.
 
 Each function below says what the reference says of an instruction, in Python's unbounded integers. Nothing
-here reads the crate or its definitions. `python3 tests/operators.py` writes the tables.
+here reads the crates or their definitions. `python3 tests/operators.py` writes a group of programs, in the form
+that programs/ has: the results of an operator at a width are the outputs of one program, and each operation
+without a result is a program of its own, whose first step is undefined.
 """
 
 WIDTHS = [1, 8, 16, 32, 64]
@@ -153,55 +155,106 @@ def flagged():
         yield op, flags, 1, [(1, 0), (1, 1)]
 
 
-def table(name, note, lines):
-    print('\n/// %s\nconst %s: &str = "\\' % (note, name))
-    for line in lines:
-        print("    " + " ".join(str(cell) for cell in line) + "\\n\\")
-    print('    ";')
+HEAD = ["declare void @haft_out(i64)"]
+UNDEFINED = {DIVIDE: "divide", POISON: "poison"}
 
 
-def main():
-    table(
-        "OPERATED",
-        "The results of each operator without flags.",
-        [
-            [op.lower(), "i%d" % w] + [binary(op, w, a, b) for a in words(w) for b in second_words(op, w)]
-            for op in OPERATORS
-            for w in WIDTHS
-        ],
-    )
-    table(
-        "FLAGGED",
-        "Operands just inside and just outside of what a flag promises, and the result.",
-        [
-            [op.lower(), flag, "i%d" % w, a, b, binary(op, w, a, b, **{flag: True})]
-            for op, flag, w, pairs in flagged()
-            for a, b in pairs
-        ],
-    )
-    table(
-        "COMPARED",
-        "The answers of each predicate, 1 for yes.",
-        [
-            [pred.lower(), "i%d" % w] + [int(holds(a, b, signed(w, a), signed(w, b))) for a in words(w) for b in words(w)]
-            for pred, holds in PREDICATES.items()
-            for w in WIDTHS
-        ],
-    )
-    table(
-        "CONVERTED",
-        "The results of each cast between each two widths that it takes.",
-        [[op.lower(), "i%d" % start, "i%d" % to] + [cast(op, start, to, a) for a in words(start)] for op, start, to in casts()],
-    )
-    table(
-        "UPDATED",
-        "The new words of each atomic operation, the old word outside.",
-        [
-            [op.lower(), "i%d" % w] + [new(w, p, v) % 2**w for p in words(w) for v in words(w)]
-            for op, new in UPDATES.items()
-            for w in WIDTHS
-        ],
-    )
+def program(name, lines, asked):
+    """A program of these lines in `main`, and what `src` and `run` report of it."""
+    print("== " + name)
+    print("\n".join(HEAD + ["@g = global i64 0", "define i32 @main() {"] + ["  " + line for line in lines] + ["  ret i32 0", "}"]))
+    for ask, report in asked:
+        print(f"-- {ask} => {' | '.join(report)}")
+    print()
 
 
-main()
+def outputs(name, operations):
+    """A program that puts out results: each operation is its lines, which define the name given, and its width and result."""
+    lines, outs = [], []
+    for k, (code, w, result) in enumerate(operations):
+        lines += [line.replace("#", str(k)) for line in code]
+        if w < 64:
+            lines.append(f"%wide{k} = zext i{w} %r{k} to i64")
+        lines.append(f"call void @haft_out(i64 %{'wide' if w < 64 else 'r'}{k})")
+        outs.append(f"out {result}")
+    # `ret` and the exit are two steps
+    steps = f"src 0*{len(lines) + 2}"
+    source = outs + ["stop end 0", steps]
+    hardened = outs + ["aborts 0 0 0 0", "stop end 0", steps]
+    program(name, lines, [("turn 0 9999", source), ("run turn 0 9999", hardened)])
+
+
+def no_result(op, flag, w, a, b):
+    """A program whose first step is undefined. The hardened program drops flags, and traps where that doesn't define it."""
+    cause = binary(op, w, a, b, **{flag: True} if flag else {})
+    line = f"%r = {op.lower()} {flag + ' ' if flag else ''}i{w} {a}, {b}"
+    traps = binary(op, w, a, b) in UNDEFINED
+    hardened = ["aborts 0 0 0 0"] + (["stop trap 0 main/0/0", "src"] if traps else ["stop end 0", "src 0*3"])
+    asked = [("turn 0 9", ["stop undefined 0 0 " + UNDEFINED[cause], "src"]), ("run turn 0 9", hardened)]
+    program(line, [line], asked)
+
+
+def operators():
+    for op in OPERATORS:
+        for w in WIDTHS:
+            pairs = [(a, b, binary(op, w, a, b)) for a in words(w) for b in second_words(op, w)]
+            code = f"{op.lower()} i{w}"
+            outputs(code, [([f"%r# = {code} {a}, {b}"], w, r) for a, b, r in pairs if r not in UNDEFINED])
+            for a, b, r in pairs:
+                if r in UNDEFINED:
+                    no_result(op, "", w, a, b)
+
+
+def flags():
+    for op, flag, w, pairs in flagged():
+        results = [(a, b, binary(op, w, a, b, **{flag: True})) for a, b in pairs]
+        code = f"{op.lower()} {flag} i{w}"
+        outputs(code, [([f"%r# = {code} {a}, {b}"], w, r) for a, b, r in results if r not in UNDEFINED])
+        for a, b, r in results:
+            if r in UNDEFINED:
+                no_result(op, flag, w, a, b)
+
+
+def predicates():
+    for pred, holds in PREDICATES.items():
+        for w in WIDTHS:
+            code = f"icmp {pred.lower()} i{w}"
+            pairs = [(a, b, int(holds(a, b, signed(w, a), signed(w, b)))) for a in words(w) for b in words(w)]
+            outputs(code, [([f"%r# = {code} {a}, {b}"], 1, r) for a, b, r in pairs])
+
+
+def conversion(op, start, to, a):
+    """The lines of a cast; where it goes from or to an address, the other way is a cast as well."""
+    if op == "Ptrtoint":
+        return [f"%p# = inttoptr i64 {a} to ptr", f"%r# = ptrtoint ptr %p# to i{to}"]
+    if op == "Inttoptr":
+        return [f"%p# = inttoptr i{start} {a} to ptr", "%r# = ptrtoint ptr %p# to i64"]
+    return [f"%r# = {op.lower()} i{start} {a} to i{to}"]
+
+
+def conversions():
+    for op, start, to in casts():
+        results = [(conversion(op, start, to, a), to, cast(op, start, to, a)) for a in words(start)]
+        outputs(f"{op.lower()} i{start} to i{to}", results)
+
+
+def update(op, w, p, v):
+    """The lines of an atomic operation on a word in memory, and of a load of what it left."""
+    return [f"store i{w} {p}, ptr @g", f"%o# = atomicrmw {op.lower()} ptr @g, i{w} {v} seq_cst", f"%r# = load i{w}, ptr @g"]
+
+
+def updates():
+    # a word in memory has 8 bits at least
+    for op, new in UPDATES.items():
+        for w in WIDTHS[1:]:
+            results = [(update(op, w, p, v), w, new(w, p, v) % 2**w) for p in words(w) for v in words(w)]
+            outputs(f"atomicrmw {op.lower()} i{w}", results)
+
+
+print("The operators of the LLVM Language Reference.")
+print()
+operators()
+flags()
+predicates()
+conversions()
+updates()

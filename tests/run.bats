@@ -16,6 +16,10 @@ seconds=60
     all_told control
 }
 
+@test "operators, predicates, casts and atomic operations, at each width" {
+    all_operators
+}
+
 @test "undefined operators" {
     all_told undefined
 }

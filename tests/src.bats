@@ -12,8 +12,16 @@ seconds=60
     all_told control
 }
 
+@test "operators, predicates, casts and atomic operations, at each width" {
+    all_operators
+}
+
 @test "undefined operators" {
     all_told undefined
+}
+
+@test "layout: sizes of types, addresses of globals, offsets, and which accesses are valid" {
+    all_told layout
 }
 
 @test "memory: where accesses are valid, how words stand, malloc" {

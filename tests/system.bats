@@ -1,9 +1,7 @@
 #!/usr/bin/env bats
 # System tests: the built program on files, words and devices, as a user meets it.
 #
-# A folder of cases/ is one call and its answer: words (one a line), the files first and second that the words name
-# (one that isn't there can't be read), stdout (all that is written) and status. Answers were worked out by hand.
-# Inputs too large to keep, and devices, are made here; the answers to these follow by arithmetic.
+# cases.txt has calls with their answers. Inputs too large to keep, and devices, are made here; the answers to these follow by arithmetic.
 #
 # The program is crates/haft/out/haft, or $HAFT.
 
@@ -75,20 +73,42 @@ many_bits() {
     echo 'i1 0]'
 }
 
-@test "each folder of cases/ has the answer that stands in it" {
-    local folder failed=0 count=0
-    for folder in "$tests"/cases/*/; do
-        cd "$folder"
-        mapfile -t words <words
-        answer "${words[@]}"
-        if ! answered_file "$(<status)" stdout; then
-            echo "  at cases/$(basename "$folder")"
-            failed=$((failed + 1))
-        fi
-        count=$((count + 1))
-    done
+# words_of LINE: the words that the line of a case names, in $words.
+words_of() {
+    read -ra words <<<"$1"
+    words=("${words[@]/#\'\'/}")
+}
+
+# end_case counts the case that has been read, and runs it.
+end_case() {
+    [ -n "$name" ] || return 0
+    count=$((count + 1))
+    answer "${words[@]}"
+    answered_file "$wanted_status" wanted && return
+    echo "  of: $name"
+    failed=$((failed + 1))
+}
+
+# all_cases runs each call of cases.txt, and names those that have another answer.
+all_cases() {
+    local line name='' words=() file='' wanted_status='' count=0 failed=0
+    while IFS= read -r line; do
+        case $line in
+            '== '*) end_case && name=${line#== } && rm -f first second ;;
+            words*) words_of "${line#words}" ;;
+            'first sum' | 'second sum') cp "$sum" "${line% sum}" ;;
+            first | second) file=$line && : >"$file" ;;
+            'status '*) wanted_status=${line#status } file=wanted && : >"$file" ;;
+            '|'*) printf '%b\n' "${line#|}" >>"$file" ;;
+        esac
+    done <"$tests/cases.txt"
+    end_case
     echo "$failed of $count failed"
     [ "$count" -gt 0 ] && [ "$failed" -eq 0 ]
+}
+
+@test "each call of cases.txt has its answer" {
+    all_cases
 }
 
 @test "each example that runs hardened prints what stands beside it" {

@@ -5,12 +5,9 @@ ghost use Rattle.hard_ir.specs.Facts.{list_limit, IsShort, AreShort};
 ghost use Rattle.check_insert.specs.Checks.{checked_item, checked_block, checked_funcs};
 
 use crate::items::add_item;
-use hard_ir::{HBlock, HBlocks, HFuncs, HInst, HInsts, HPhis};
+use hard_ir::{HBlock, HBlocks, HFuncs, HInst, HInsts, HPhis, LIST_LIMIT};
 use ir_core::{Copied, Inst, Seq, Side};
 use std::alloc::{AllocError, Global};
-
-// A list that reaches so many items finds no memory.
-const LIST_LIMIT: usize = 4_294_967_295;
 
 // Adds the items behind their checks.
 fn add_items(items: &[HInst], list: &mut HInsts, alloc: Global) -> Result<(), AllocError>

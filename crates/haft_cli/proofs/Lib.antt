@@ -1,3 +1,7 @@
-pub mod Files
-pub mod Finishes
-pub mod Preparing
+pub mod Known
+pub mod Forms
+pub mod OneAnswer
+pub mod Reading
+pub mod Refusing
+pub mod Working
+pub mod Ending

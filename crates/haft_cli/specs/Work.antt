@@ -1,108 +1,91 @@
--- What is written for the files of a command.
-use Rattle.std.specs.Prelude.{ℕ, ◌≡◌, ◌⊎◌, List, Option, Some}
+-- How a report is come by, and what is written of it. Private contracts cite this.
+use Rattle.std.specs.Prelude.{ℕ, ◌≡◌, ◌≤◌, ◌<◌, ◌⊎◌, List, Option, Some, Result, Ok, Err, IsTrue, length}
 use Rattle.std.specs.Option.{ForSome}
+use Rattle.std.specs.declared.alloc.Global.{Global}
+use Rattle.std.specs.declared.vec.Vec.{Vec}
 use Rattle.haft_io.specs.declared.device.Which.{Which}
-use Rattle.haft_io.specs.declared.device.Which.TheVariants.{First, Second}
-use Rattle.haft_io.specs.Device.{Rose, emptied}
-use Rattle.haft_cli.specs.declared.command.Command.{Command}
-use Rattle.haft_cli.specs.declared.command.Command.TheVariants.{Check, Run, Src}
-use Rattle.haft_cli.specs.declared.work.Opened.{Opened}
-use Rattle.haft_cli.specs.declared.work.Opened.TheVariants.{Accepted, Turned}
-use Rattle.haft_cli.specs.declared.work.Texts.{Texts}
-use Rattle.haft_cli.specs.declared.work.Texts.TheVariants.{Both, Long}
-use Rattle.haft_cli.specs.declared.work.Work.{Work}
-use Rattle.haft_cli.specs.declared.work.Work.TheVariants.{Report, Refused}
+use Rattle.haft_io.specs.declared.device.Which.TheVariants.{First}
+use Rattle.haft_io.specs.Device.{Rose, Puts, PutsPart, emptied}
+use Rattle.ir_parse_top.specs.declared.errors.ParseError.{ParseError}
+use Rattle.ir_parse_top.specs.declared.errors.ParseError.TheVariants as parse
+use Rattle.ir_check.specs.declared.fault.CheckError.{CheckError}
+use Rattle.ir_check.specs.declared.fault.CheckError.TheVariants as check
+use Rattle.sched_file.specs.declared.parsing.SchedError.{SchedError}
+use Rattle.sched_file.specs.declared.parsing.SchedError.TheVariants as schedule
+use Rattle.haft_cli.specs.declared.refusal.Refusal.{Refusal}
+use Rattle.haft_cli.specs.declared.refusal.Refusal.TheVariants.{Long, TextWord, TextByte, Module, Schedule}
+use Rattle.haft_cli.specs.declared.refusal.Stopped.{Stopped}
+use Rattle.haft_cli.specs.declared.refusal.Stopped.TheVariants as stopped
 use Rattle.haft_cli.specs.declared.top.Status.{Status}
-use Rattle.haft_cli.specs.declared.top.Status.TheVariants as statuses
-use Rattle.haft_cli.specs.Command.{Checks, IsReport, IsLine, IsWithin, IsRefused, IsTextRefused, ReadsSecond, check_report, result_on, run_report, watch_report}
-use Rattle.ir_core.specs.Module.{ModuleParts}
-use Rattle.sched_file.specs.Schedule.{ScheduleParts}
-use Rattle.src_meaning.specs.Races.{IsGood}
-use Rattle.hard_simulation.specs.Meaning.{Means, Told}
+use Rattle.haft_cli.specs.declared.top.Status.TheVariants as status
+use Rattle.haft_cli.specs.Refusals.{line_of}
+use Rattle.haft_cli.specs.Table.{Refused, Row}
+use Rattle.haft_cli.specs.Answers.{Decides, reads, limit}
+use Rattle.haft_cli.specs.Outcome.{Files, Holds, Outcome}
 
--- the work is that of these files
-abbrev pub IsWork : Command → Option (List ℕ) → Option (List ℕ) → Work → Type 0
-IsWork command first second (Report text) = IsReport command first second text.items
-IsWork command first second (Refused line) = IsLine command first second line.items
+-- a reason that comes from the texts of the files: a refusal of which this holds, or that memory ran out
+abbrev pub Refuses : (Refusal → Type 0) → Stopped → Type 0
+Refuses P (stopped.Refused refusal) = P refusal
+Refuses P stopped.ReadFault = ⊥
+Refuses P stopped.NoMemory = Unit {0}
 
--- what is written
-abbrev pub text_of : Work → List ℕ
-text_of (Report text) = text.items
-text_of (Refused line) = line.items
+-- ---- one file
 
--- a report, and no refusal
-abbrev pub IsReportWork : Work → Type 0
-IsReportWork (Report text) = Unit {0}
-IsReportWork (Refused line) = ⊥
+-- the bytes were taken from a file: all of one that is read, which isn't too long
+pub record TakesFile (row : Row) (which : Which) (old new : Files) (bytes : List ℕ) : Type 0 where
+  pub held : IsTrue (reads row which) → Holds (old.left which) bytes
+  pub within : length bytes ≤ limit
+  pub ended : IsTrue (reads row which) → new.left which ≡ emptied (old.left which)
 
--- nothing is left of either file
-abbrev pub AreRead : (Which → Option (List ℕ)) → (Which → Option (List ℕ)) → Type 0
-AreRead old new = (new First ≡ emptied (old First)) × (new Second ≡ emptied (old Second))
+-- why none were
+abbrev pub StopsAt : Row → Which → Files → Files → Stopped → Type 0
+StopsAt row which old new (stopped.Refused refusal) =
+    IsTrue (reads row which) × (refusal ≡ Long which) × ForSome (old.left which) (λ rest. limit < length rest)
+StopsAt row which old new stopped.ReadFault = IsTrue (reads row which) × Rose (old.faults which) (new.faults which)
+StopsAt row which old new stopped.NoMemory = Unit {0}
 
--- nothing is left of a file that the command reads, and the other one is as it was
-abbrev pub IsRead : Command → (Which → Option (List ℕ)) → (Which → Option (List ℕ)) → Type 0
-IsRead Check old new = (new First ≡ emptied (old First)) × (new Second ≡ old Second)
-IsRead Run old new = AreRead old new
-IsRead Src old new = AreRead old new
+-- ---- a row of the table
 
--- a count of faults rose of one of the files
-abbrev pub RoseInEither : (Which → ℕ) → (Which → ℕ) → Type 0
-RoseInEither old new = Rose (old First) (new First) ⊎ Rose (old Second) (new Second)
+-- a read failed of a file that decides the answer, where what the first one held is known
+pub record FailsAt (row : Row) (old new : Files) : Type 0 where
+  pub which : Which
+  pub is_read : IsTrue (reads row which)
+  pub rose : Rose (old.faults which) (new.faults which)
+  pub decides : (first : List ℕ) → (IsTrue (reads row First) → old.left First ≡ Some first) → Decides row first which
 
--- a count of faults rose of a file that the command reads
-abbrev pub RoseIn : Command → (Which → ℕ) → (Which → ℕ) → Type 0
-RoseIn Check old new = Rose (old First) (new First)
-RoseIn Run old new = RoseInEither old new
-RoseIn Src old new = RoseInEither old new
+-- why there is no report
+abbrev pub Stops : Row → Files → Files → Stopped → Type 0
+Stops row old new (stopped.Refused refusal) = Outcome row old new (Refused refusal)
+Stops row old new stopped.ReadFault = FailsAt row old new
+Stops row old new stopped.NoMemory = Unit {0}
 
--- what is left of the files that the command reads
-abbrev pub AreTold : Command → (Which → Option (List ℕ)) → List ℕ → List ℕ → Type 0
-AreTold Check left first second = left First ≡ Some first
-AreTold Run left first second = (left First ≡ Some first) × (left Second ≡ Some second)
-AreTold Src left first second = (left First ≡ Some first) × (left Second ≡ Some second)
+-- ---- what is written
 
--- the status that a work ends with, once it is written
-abbrev pub status_of : Work → Status
-status_of (Report text) = statuses.Done
-status_of (Refused line) = statuses.Refused
+-- these bytes were written, or a proper prefix of them
+abbrev pub WritesOrFails : List ℕ → Status → Status → Option (List ℕ) → Option (List ℕ) → Type 0 → Type 0
+WritesOrFails bytes wanted answer before after rose =
+    ((answer ≡ wanted) × Puts before bytes after) ⊎ ((answer ≡ status.WriteFault) × rose × PutsPart before bytes after)
 
--- the work is the report of this run, which tells of the source what it says
-pub record IsRunOf (m : ModuleParts) (s : ScheduleParts) (work : Work) : Type 0 where
-  pub done : status_of work ≡ statuses.Done
-  pub text : text_of work ≡ run_report m s
-  pub told : Told m s.args (result_on m s)
-  pub means : IsGood m s.args → Means m s.args (result_on m s)
+-- what is written of a report, or of the reason why there is none
+abbrev pub Tells : Result (Vec ℕ Global) Stopped → Status → Option (List ℕ) → Option (List ℕ) → Type 0 → Type 0
+Tells (Ok text) answer before after rose = WritesOrFails text.items status.Done answer before after rose
+Tells (Err (stopped.Refused refusal)) answer before after rose =
+    WritesOrFails (line_of refusal) status.Refused answer before after rose ⊎ (answer ≡ status.NoMemory)
+Tells (Err stopped.ReadFault) answer before after rose = answer ≡ status.ReadFault
+Tells (Err stopped.NoMemory) answer before after rose = answer ≡ status.NoMemory
 
--- the work is what `check` tells of this module
-pub record IsCheckOf (m : ModuleParts) (work : Work) : Type 0 where
-  pub done : status_of work ≡ statuses.Done
-  pub text : text_of work ≡ check_report m
+-- ---- errors of the readers
 
--- the work is the report of this watch
-pub record IsWatchOf (m : ModuleParts) (s : ScheduleParts) (work : Work) : Type 0 where
-  pub done : status_of work ≡ statuses.Done
-  pub text : text_of work ≡ watch_report m s
+-- an error in reading a module, in checking it or in reading a schedule, as a reason why there is no report
+abbrev pub of_parse : ParseError → Stopped
+of_parse (parse.Refused line word) = stopped.Refused (TextWord line word)
+of_parse (parse.BadByte line column) = stopped.Refused (TextByte line column)
+of_parse parse.NoMemory = stopped.NoMemory
 
--- ---- files and texts
+abbrev pub of_check : CheckError → Stopped
+of_check (check.Fault kind at name) = stopped.Refused (Module kind at name)
+of_check check.NoMemory = stopped.NoMemory
 
--- where a file is told, these bytes are what it held
-abbrev pub Holds : Option (List ℕ) → List ℕ → Type 0
-Holds left bytes = ForSome left (λ rest. bytes ≡ rest)
-
--- both files were read whole, and aren't too long
-pub record AreWhole (old new : Which → Option (List ℕ)) (first second : List ℕ) : Type 0 where
-  pub first_held : Holds (old First) first
-  pub second_held : Holds (old Second) second
-  pub first_within : IsWithin first
-  pub second_within : IsWithin second
-  pub read : AreRead old new
-
--- so it is, or each command that reads both refuses them
-abbrev pub AreTexts : (Which → Option (List ℕ)) → (Which → Option (List ℕ)) → Texts → Type 0
-AreTexts old new (Both first second) = AreWhole old new first.items second.items
-AreTexts old new (Long refusal) = (command : Command) → ReadsSecond command → IsRefused command (old First) (old Second) refusal
-
--- the text is refused, or stands for the module
-abbrev pub IsOpened : List ℕ → Opened → Type 0
-IsOpened text (Accepted m) = Checks text m
-IsOpened text (Turned refusal) = IsTextRefused text refusal
+abbrev pub of_schedule : SchedError → Stopped
+of_schedule (schedule.Refused line) = stopped.Refused (Schedule line)
+of_schedule schedule.NoMemory = stopped.NoMemory

@@ -1,13 +1,14 @@
-//! What `check` tells of an accepted module.
+//! What `check` reports of an accepted module.
 ghost use Rattle.std.specs.Prelude.{◌≡◌, IfOk, OnOk, IfSome, ◌++◌, map, length};
 ghost use Rattle.std.specs.List.{sum};
 ghost use Rattle.std.specs.Fmt.{decimal};
-ghost use Rattle.haft_cli.specs.Command.{block_count, insts_in, inst_count, check_report};
+ghost use Rattle.haft_cli.specs.Table.{block_count, insts_in, inst_count, check_report};
 
+use ir_check::Accepted;
 use ir_core::{Func, Module};
 use std::alloc::{AllocError, Global};
 
-/// How many blocks the functions have, or `None` for more than a number can tell.
+/// How many blocks the functions have, or `None` for more than a number can hold.
 fn block_count(m: &Module) -> Option<usize>
     ensures { IfSome result (λ count. count ≡ block_count m.now) }
 {
@@ -48,9 +49,9 @@ fn push_number(text: &mut Vec<u8>, number: usize) -> Result<(), AllocError>
     text.extend_from_slice(buffer.format(number).as_bytes())
 }
 
-/// `accepted`, and how many functions, blocks and instructions the module has. Counts that no number can tell, which no text
-/// has, count as want of memory.
-pub fn check_report(alloc: Global, m: &Module) -> Result<Vec<u8>, AllocError>
+/// `accepted`, and how many functions, blocks and instructions the module has. Counts that no number can hold, which no text
+/// has, count as out of memory.
+fn counts_line(alloc: Global, m: &Module) -> Result<Vec<u8>, AllocError>
     ensures { IfOk result (λ text. text.items ≡ check_report m.now) }
 {
     let blocks = block_count(m).ok_or(AllocError)?;
@@ -63,4 +64,11 @@ pub fn check_report(alloc: Global, m: &Module) -> Result<Vec<u8>, AllocError>
     push_number(&mut text, insts)?;
     text.extend_from_slice(b"\n")?;
     Ok(text)
+}
+
+/// The report of `check`.
+pub fn check_report(alloc: Global, a: &Accepted) -> Result<Vec<u8>, AllocError>
+    ensures { IfOk result (λ text. text.items ≡ check_report a.now) }
+{
+    counts_line(alloc, a.module())
 }

@@ -1,17 +1,22 @@
 //! The top call, over devices: what the words ask for is read, done and written.
 //!
-//! The words are `check F`, which tells whether a module is accepted; `run F S`, which hardens it and runs it over a schedule; or
-//! `src F S`, which watches the run of its source over a schedule for an undefined step or a race.
+//! A command is a row of one table: in which form it reads each of its files, and its answer to what stands in them. `specs/Table.antt` has
+//! the table, and `specs/Answers.antt` says what any row answers to files, with its refusals in their order; `table.rt` does the work of each
+//! row, and `files.rt` reads the files of any.
 //!
-//! `haft` is the call that the program makes, and its contract carries what the tool promises of bytes.
-//! Its clauses cite `specs/Command.antt` (command lines, files that are refused, the reports of files) and
-//! `specs/Written.antt` (what was written); `specs/Work.antt` is for private contracts.
+//! `haft` is the call that the program makes, and its contract carries what the tool promises of bytes. Its clauses cite besides
+//! `specs/Command.antt` (command lines), `specs/Refusals.antt` (the lines of refusals) and `specs/Outcome.antt` (what became of the files,
+//! and what was written); `specs/Work.antt` is for private contracts.
 #![tactic(auto)]
 
 mod command;
 mod counts;
+mod files;
+mod refusal;
+mod table;
+mod texts;
 mod top;
-mod work;
 
-pub use command::{Command, Refusal};
+pub use command::Command;
+pub use refusal::Refusal;
 pub use top::{Status, haft};

@@ -1,21 +1,22 @@
 //! The top call.
-ghost use Rattle.std.specs.Prelude.{◌≡◌, ◌⊎◌, ◌↔◌, List, ℕ, Bool, true, false, Some, None, map, string_bytes, length};
+ghost use Rattle.std.specs.Prelude.{◌≡◌, ◌⊎◌, ◌↔◌, List, ℕ, Some, None, map, string_bytes};
 ghost use Rattle.std.specs.Option.{ForSome};
-ghost use Rattle.haft_io.specs.Device.{Rose, Puts, PutsPart, emptied};
+ghost use Rattle.haft_io.specs.Device.{Rose, Puts};
 ghost use Rattle.ir_core.specs.Module.{ModuleParts};
 ghost use Rattle.sched_file.specs.Schedule.{ScheduleParts};
 ghost use Rattle.src_meaning.specs.Races.{IsGood};
 ghost use Rattle.hard_simulation.specs.Meaning.{Means, Told};
-ghost use Rattle.haft_cli.specs.Command.{command_of, IsWithin, IsRefused, Checks, Runs, Watches, check_report, result_on, run_report, watch_report};
-ghost use Rattle.haft_cli.specs.declared.command.Command.{Command as CommandValue};
-ghost use Rattle.haft_cli.specs.declared.command.Command.TheVariants.{Check, Run, Src};
-ghost use Rattle.haft_cli.specs.declared.command.Refusal.{Refusal};
-ghost use Rattle.haft_cli.specs.Written.{WritesReport, WritesRefusal, WritesPart, IsQuiet};
-ghost use Rattle.haft_cli.specs.Work.{IsRead, RoseIn, AreTold, status_of, text_of};
+ghost use Rattle.haft_cli.specs.Command.{command_of};
+ghost use Rattle.haft_cli.specs.Table.{Answer, Report, row_of, result_on};
+ghost use Rattle.haft_cli.specs.Answers.{Works, Answers};
+ghost use Rattle.haft_cli.specs.Outcome.{files, AreKnown, AreCalm, AsksRun, Ends, FailsToRead, IsQuiet, KeepsUnread, status_of};
+ghost use Rattle.haft_cli.specs.Work.{Tells, WritesOrFails};
+ghost use Rattle.haft_cli.specs.declared.command.Command.{Command};
 
 use crate::command::command_of;
-use crate::work::{Stopped, Work, prepare};
-use haft_io::{Inputs, Sink, Which, write_whole};
+use crate::files::report;
+use crate::refusal::Stopped;
+use haft_io::{Inputs, Sink, write_whole};
 use std::alloc::Global;
 
 /// How a call ended. Its number is the status of the program.
@@ -35,19 +36,33 @@ pub enum Status {
     NoMemory,
 }
 
-/// Writes the work whole.
-fn finish<O: Sink>(out: &mut O, work: &Work) -> Status
-    ensures cases { ((result ≡ status_of work.now) × Puts (O.written out.old) (text_of work.now) (O.written out.new))
-        ⊎ ((result ≡ Status.WriteFault) × Rose (O.faults out.old) (O.faults out.new)
-        × PutsPart (O.written out.old) (text_of work.now) (O.written out.new)) }
+/// Writes a text whole; then the status is the one that is given.
+fn write<O: Sink>(out: &mut O, text: &[u8], status: Status) -> Status
+    ensures { WritesOrFails text.now status result (O.written out.old) (O.written out.new) (Rose (O.faults out.old) (O.faults out.new)) }
 {
-    let (text, status) = match work {
-        Work::Report(text) => (text.as_slice(), Status::Done),
-        Work::Refused(line) => (line.as_slice(), Status::Refused),
-    };
     match write_whole(out, text) {
         Ok(()) => status,
         Err(_) => Status::WriteFault,
+    }
+}
+
+/// Writes a report whole, or the line of a refusal.
+fn tell<O: Sink>(alloc: Global, out: &mut O, report: Result<Vec<u8>, Stopped>) -> Status
+    ensures tells { Tells report result (O.written out.old) (O.written out.new) (Rose (O.faults out.old) (O.faults out.new)) }
+    ensures quiet { IsQuiet result → out.new ≡ out.old }
+{
+    match report {
+        Ok(text) => write(out, &text, Status::Done),
+        Err(Stopped::Refused(refusal)) => {
+            let line = refusal.line(alloc);
+            drop(refusal);
+            match line {
+                Ok(line) => write(out, &line, Status::Refused),
+                Err(_) => Status::NoMemory,
+            }
+        }
+        Err(Stopped::ReadFault) => Status::ReadFault,
+        Err(Stopped::NoMemory) => Status::NoMemory,
     }
 }
 
@@ -57,7 +72,7 @@ fn finish<O: Sink>(out: &mut O, work: &Work) -> Status
 /// itself over the schedule's turns, up to its end, an undefined step or a race, and writes the report of that.
 ///
 /// The order is: the words; the first file, read whole; the second; the text of the module; its check; the text of the
-/// schedule; for `run` whether it has an upset; the run; the write. For want of memory nothing is written.
+/// schedule; for `run` whether it has an upset; the run; the write. Where memory runs out, nothing is written.
 pub fn haft<I: Inputs, O: Sink>(
     alloc: Global,
     words: &[String],
@@ -66,82 +81,42 @@ pub fn haft<I: Inputs, O: Sink>(
 ) -> Status
     // The words.
     ensures usage { (result ≡ Status.Usage) ↔ (command_of (map string_bytes words.now) ≡ None) }
-
-    // A fault comes from a device, and from a file only where the command reads it.
-    ensures read_fault { result ≡ Status.ReadFault → ForSome (command_of (map string_bytes words.now)) (λ command. RoseIn command (I.faults inputs.old) (I.faults inputs.new)) }
-    ensures write_fault { result ≡ Status.WriteFault → Rose (O.faults out.old) (O.faults out.new) }
-
-    // What was written, and what was read.
-    ensures done { result ≡ Status.Done → ForSome (command_of (map string_bytes words.now)) (λ command. WritesReport command (I.left inputs.old Which.First) (I.left inputs.old Which.Second) (O.written out.old) (O.written out.new)) }
-    ensures refused { result ≡ Status.Refused → ForSome (command_of (map string_bytes words.now)) (λ command. WritesRefusal command (I.left inputs.old Which.First) (I.left inputs.old Which.Second) (O.written out.old) (O.written out.new)) }
-    ensures part { result ≡ Status.WriteFault → ForSome (command_of (map string_bytes words.now)) (λ command. WritesPart command (I.left inputs.old Which.First) (I.left inputs.old Which.Second) (O.written out.old) (O.written out.new)) }
-    ensures quiet { IsQuiet result → out.new ≡ out.old }
-    ensures read { result ≡ Status.Done → ForSome (command_of (map string_bytes words.now)) (λ command. IsRead command (I.left inputs.old) (I.left inputs.new)) }
     ensures unread { result ≡ Status.Usage → inputs.new ≡ inputs.old }
-    ensures second_unread { command_of (map string_bytes words.now) ≡ Some Check → I.left inputs.new Which.Second ≡ I.left inputs.old Which.Second }
 
-    // Where the files are to be refused, only want of memory stands in the way.
-    ensures refuses { (command : CommandValue) (first second : List ℕ) (refusal : Refusal) → command_of (map string_bytes words.now) ≡ Some command
-        → AreTold command (I.left inputs.old) first second
-        → IsRefused command (Some first) (Some second) refusal
-        → ¬ RoseIn command (I.faults inputs.old) (I.faults inputs.new)
-        → ¬ Rose (O.faults out.old) (O.faults out.new)
-        → (result ≡ Status.Refused) ⊎ (result ≡ Status.NoMemory) }
+    // A fault comes from a device, and from a file only where the command reads it; another file stays as it was.
+    ensures read_fault { result ≡ Status.ReadFault
+        → ForSome (command_of (map string_bytes words.now)) (λ command. FailsToRead (row_of command) (I.faults inputs.old) (I.faults inputs.new)) }
+    ensures write_fault { result ≡ Status.WriteFault → Rose (O.faults out.old) (O.faults out.new) }
+    ensures kept { ForSome (command_of (map string_bytes words.now)) (λ command. KeepsUnread (row_of command)
+        (files (I.left inputs.old) (I.faults inputs.old)) (files (I.left inputs.new) (I.faults inputs.new))) }
 
-    // For an accepted module `check` writes exactly its counts.
-    ensures checked { (first : List ℕ) (m : ModuleParts) → command_of (map string_bytes words.now) ≡ Some Check → result ≡ Status.Done
-        → I.left inputs.old Which.First ≡ Some first
-        → Checks first m
-        → Puts (O.written out.old) (check_report m) (O.written out.new) }
+    // What was written, for which files, and what became of them.
+    ensures outcome { ForSome (command_of (map string_bytes words.now)) (λ command. Ends (row_of command)
+        (files (I.left inputs.old) (I.faults inputs.old)) (files (I.left inputs.new) (I.faults inputs.new)) result (O.written out.old) (O.written out.new)) }
+    ensures quiet { IsQuiet result → out.new ≡ out.old }
 
-    // For an accepted module and a schedule without upsets the bytes written are exactly the report of the hardened run.
-    ensures exact { (first second : List ℕ) (m : ModuleParts) (s : ScheduleParts) → command_of (map string_bytes words.now) ≡ Some Run → result ≡ Status.Done
-        → I.left inputs.old Which.First ≡ Some first → I.left inputs.old Which.Second ≡ Some second
-        → Runs first second m s
-        → Puts (O.written out.old) (run_report m s) (O.written out.new) }
+    // Where the files are known, a report is that of the command for them.
+    ensures exact { (command : Command) (first second text : List ℕ) → command_of (map string_bytes words.now) ≡ Some command
+        → AreKnown (row_of command) (I.left inputs.old) first second → Works (row_of command) first second (Report text)
+        → result ≡ Status.Done → Puts (O.written out.old) text (O.written out.new) }
 
-    // That run stands for the source run whose turns it tells, or the source is undefined on them.
-    ensures told { (first second : List ℕ) (m : ModuleParts) (s : ScheduleParts) → command_of (map string_bytes words.now) ≡ Some Run → result ≡ Status.Done
-        → I.left inputs.old Which.First ≡ Some first → I.left inputs.old Which.Second ≡ Some second
-        → Runs first second m s → Told m s.args (result_on m s) }
+    // Whatever the answer is, only memory that runs out, the files that decide it and the sink stand in the way.
+    ensures complete { (command : Command) (first second : List ℕ) (answer : Answer) → command_of (map string_bytes words.now) ≡ Some command
+        → AreKnown (row_of command) (I.left inputs.old) first second → Answers (row_of command) first second answer
+        → AreCalm (row_of command) first (I.faults inputs.old) (I.faults inputs.new) → ¬ Rose (O.faults out.old) (O.faults out.new)
+        → (result ≡ status_of answer) ⊎ (result ≡ Status.NoMemory) }
+
+    // The result of a run stands for the source run whose turns it tells, or the source is undefined on them.
+    ensures told { (m : ModuleParts) (s : ScheduleParts) → AsksRun (command_of (map string_bytes words.now)) (I.left inputs.old) m s
+        → result ≡ Status.Done → Told m s.args (result_on m s) }
 
     // So it stands for a source run where the module is good.
-    ensures meaning { (first second : List ℕ) (m : ModuleParts) (s : ScheduleParts) → command_of (map string_bytes words.now) ≡ Some Run → result ≡ Status.Done
-        → I.left inputs.old Which.First ≡ Some first → I.left inputs.old Which.Second ≡ Some second
-        → Runs first second m s → IsGood m s.args → Means m s.args (result_on m s) }
-
-    // For an accepted module and a schedule `src` writes exactly the report of the watch.
-    ensures watched { (first second : List ℕ) (m : ModuleParts) (s : ScheduleParts) → command_of (map string_bytes words.now) ≡ Some Src → result ≡ Status.Done
-        → I.left inputs.old Which.First ≡ Some first → I.left inputs.old Which.Second ≡ Some second
-        → Watches first second m s
-        → Puts (O.written out.old) (watch_report m s) (O.written out.new) }
-
-    // Where all is right, only want of memory stands in the way.
-    ensures complete { (first second : List ℕ) (m : ModuleParts) (s : ScheduleParts) → command_of (map string_bytes words.now) ≡ Some Run
-        → I.left inputs.old Which.First ≡ Some first → I.left inputs.old Which.Second ≡ Some second
-        → IsWithin first → IsWithin second → Runs first second m s
-        → ¬ RoseIn Run (I.faults inputs.old) (I.faults inputs.new)
-        → ¬ Rose (O.faults out.old) (O.faults out.new)
-        → (result ≡ Status.Done) ⊎ (result ≡ Status.NoMemory) }
-    ensures watch_complete { (first second : List ℕ) (m : ModuleParts) (s : ScheduleParts) → command_of (map string_bytes words.now) ≡ Some Src
-        → I.left inputs.old Which.First ≡ Some first → I.left inputs.old Which.Second ≡ Some second
-        → IsWithin first → IsWithin second → Watches first second m s
-        → ¬ RoseIn Src (I.faults inputs.old) (I.faults inputs.new)
-        → ¬ Rose (O.faults out.old) (O.faults out.new)
-        → (result ≡ Status.Done) ⊎ (result ≡ Status.NoMemory) }
-    ensures check_complete { (first : List ℕ) (m : ModuleParts) → command_of (map string_bytes words.now) ≡ Some Check
-        → I.left inputs.old Which.First ≡ Some first
-        → IsWithin first → Checks first m
-        → ¬ RoseIn Check (I.faults inputs.old) (I.faults inputs.new)
-        → ¬ Rose (O.faults out.old) (O.faults out.new)
-        → (result ≡ Status.Done) ⊎ (result ≡ Status.NoMemory) }
+    ensures meaning { (m : ModuleParts) (s : ScheduleParts) → AsksRun (command_of (map string_bytes words.now)) (I.left inputs.old) m s
+        → result ≡ Status.Done → IsGood m s.args → Means m s.args (result_on m s) }
 {
     let Some(command) = command_of(words) else {
         return Status::Usage;
     };
-    match prepare(alloc, command, inputs) {
-        Ok(work) => finish(out, &work),
-        Err(Stopped::ReadFault) => Status::ReadFault,
-        Err(Stopped::NoMemory) => Status::NoMemory,
-    }
+    let report = report(alloc, command, inputs);
+    tell(alloc, out, report)
 }

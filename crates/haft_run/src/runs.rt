@@ -1,5 +1,5 @@
 //! Hardened programs, run.
-ghost use Rattle.std.specs.Prelude.{◌≡◌, ◌<◌, ◌^◌, length, IfOk};
+ghost use Rattle.std.specs.Prelude.{◌≡◌, IfOk};
 ghost use Rattle.ir_core.specs.Module.{ModuleParts};
 ghost use Rattle.ir_check.specs.Faults.{IsAccepted};
 ghost use Rattle.src_meaning.specs.Races.{IsGood};
@@ -21,7 +21,6 @@ use std::alloc::{AllocError, Global};
 /// that was never made does nothing, nor does an abort, and events after the stop change nothing.
 pub fn run_hardened(alloc: Global, h: &Hardened, s: &Schedule) -> Result<RunResult, AllocError>
     requires upset_free { IsUpsetFree (events_of s.now.lines) }
-    requires few { length (events_of s.now.lines) < 2 ^ 64 }
     // The result is that of the run on the events.
     ensures exact { IfOk result (λ r. r ≡ run_on h.now s.now.args (events_of s.now.lines)) }
     // Where the hardened module is an image of an accepted one, the result stands for a run of that source, or the source is undefined on
@@ -41,7 +40,6 @@ pub fn run_hardened(alloc: Global, h: &Hardened, s: &Schedule) -> Result<RunResu
 /// Hardens an accepted module, and runs it as `run_hardened` does.
 pub fn run(alloc: Global, a: &Accepted, s: &Schedule) -> Result<RunResult, AllocError>
     requires upset_free { IsUpsetFree (events_of s.now.lines) }
-    requires few { length (events_of s.now.lines) < 2 ^ 64 }
     // The result is that of the hardened module's run on the events.
     ensures exact { IfOk result (λ r. r ≡ run_on (hardened_by check_table a.now) s.now.args (events_of s.now.lines)) }
     // The result stands for a run of the source, or the source is undefined on the result's turns.

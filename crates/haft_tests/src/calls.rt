@@ -138,6 +138,18 @@ fn files_past_the_limit_are_refused_before_their_form_is_looked_at(rt: HostRunti
     }
 }
 
+/// The first file is past the limit at its 1,025th read, and the next read of all would fail.
+#[test]
+fn a_first_file_past_the_limit_is_refused_before_the_second_is_read(rt: HostRuntime) {
+    let long = vec![in rt.alloc(); b'?'; 4_194_305].expect(&rt, "no memory for a long file");
+    let (answer, written) = run_on(&rt, rt.alloc(), &long, TURNS.as_bytes(), 1026, 0);
+    assert!(rt; answer == Status::Refused);
+    assert_eq!(rt; written.as_slice(), b"refused long first\n".as_slice());
+    let (answer, written) = run_on(&rt, rt.alloc(), &long[1..], TURNS.as_bytes(), 1026, 0);
+    assert!(rt; answer == Status::ReadFault);
+    assert!(rt; written.is_empty());
+}
+
 #[test]
 fn faulty_words_write_and_read_nothing(rt: HostRuntime) {
     let alloc = rt.alloc();

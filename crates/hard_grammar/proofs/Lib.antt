@@ -10,5 +10,6 @@ mod Columns
 pub mod Modules
 mod Accepted
 mod WrittenTypes
+mod WrittenNames
 mod Held
 mod Results

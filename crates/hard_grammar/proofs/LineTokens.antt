@@ -14,7 +14,7 @@ use Rattle.ir_core.proofs.Lengths.{name_ends}
 use Rattle.ir_core.proofs.LongestName.{name_of, name_again}
 use Rattle.ir_grammar.specs.Tokens.{token_of}
 use Rattle.ir_parse_top.specs.Text.{moved, all_moved}
-use Rattle.hard_ir.specs.Standing.{HasKind}
+use Rattle.hard_ir.specs.Lines.{HasKind}
 
 -- ---- names before a line feed
 

@@ -68,7 +68,7 @@ numbered_facts text count table f within small told some =
     let names = renaming_of whole table named in
     record {
       entry = some_blocks (map (renamed_block names) f.blocks) some;
-      params = param_facts text count table named f.params;
+      params = param_facts text count table named (length f.params) within small f.params told.names;
       values = all_map (λ (param : Ty × Loc). NotVoid param.0) (λ (param : Ty × Loc). NotVoid param.0) (renamed_param names)
           (λ param. not_void_renamed names param.0) f.params told.params;
       each = all_map (IsToldBlock text (numerals 0 count) (length f.params)) (BlockFacts (tables_of table named)) (renamed_block names) (block_facts text count table named (length f.params) within small) f.blocks told.each;

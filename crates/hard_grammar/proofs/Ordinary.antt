@@ -16,8 +16,8 @@ use Rattle.ir_grammar.specs.Tokens.{is_punct}
 use Rattle.ir_grammar.specs.Fitting.{IsInstruction}
 use Rattle.ir_numbering.specs.Renaming.{Renaming, renamed_inst}
 use Rattle.ir_types.specs.Firsts.{entry_of, first_of}
-use Rattle.hard_ir.specs.Lines.{mark, registers_of, is_register_at, on_side, sided, asterisk}
-use Rattle.hard_ir.specs.Standing.{Tables, AreNumbered, HasKind, AreTokens, HasInstLine}
+use Rattle.hard_ir.specs.Lines.{HasKind, AreTokens, mark, registers_of, is_register_at, on_side, sided, asterisk}
+use Rattle.hard_ir.specs.Standing.{Tables, AreNumbered, HasInstLine}
 
 -- an ordinary line stands for the instruction
 pub record HasOrdinaryLine (tables : Tables) (inst : Inst) : Type 0 where
@@ -129,7 +129,7 @@ hardened_line tables side inst retires h bare = record {
   tree = h.tree;
   names = h.names;
   kinds = all_append HasKind (map (sided side h.tree) h.line) (stars retires) (all_map HasKind HasKind (sided side h.tree) (sided_kept side h.tree) h.line h.kinds) (star_kinds retires);
-  stands = record { line = h.line; back = stars retires; ordinary = h.stands; end = star_ends retires; whole = refl };
+  stands = record { line = h.line; back = stars retires; kinds = h.kinds; ordinary = h.stands; end = star_ends retires; whole = refl };
   numbered = h.numbered;
   is = h.is;
   bare = bare;

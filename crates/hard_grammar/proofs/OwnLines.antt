@@ -1,7 +1,6 @@
 -- Checks and copies of registers of one word, and of what a `cmpxchg` gave, have lines.
 use Rattle.std.proofs.Common.{ℕ, suc, ◌≡◌, inl, inr, true, eqb, List, [], ◌∷◌, ◌++◌, drop, Some, refl, sym, ap, ◌∙◌}
 use Rattle.std.specs.Prelude.{codes, is_some, if◌then◌else◌}
-use Rattle.std.specs.List.{list_all}
 use Rattle.std.specs.Str.{bytes_eq}
 use Rattle.std.proofs.lemmas.Slice.Eq.{bytes_eq-Decides}
 use Rattle.ir_core.specs.declared.text.TokKind.TheVariants.{Word, Local, Punct}
@@ -16,7 +15,7 @@ use Rattle.ir_core.specs.declared.types.Ty.TheFolds.{fold-roll-Ty}
 use Rattle.ir_core.specs.declared.values.Side.{Side}
 use Rattle.ir_core.specs.declared.values.Side.TheVariants.{M, S}
 use Rattle.ir_core.specs.Names.{number_given}
-use Rattle.ir_core.specs.Tokens.{is_name_byte, IsToken}
+use Rattle.ir_core.specs.Tokens.{is_name, IsToken}
 use Rattle.ir_grammar.specs.declared.heads.TypeHead.TheVariants as heads
 use Rattle.ir_grammar.specs.Parts.{Tok}
 use Rattle.ir_grammar.specs.Tokens.{known}
@@ -27,15 +26,15 @@ use Rattle.hard_ir.specs.declared.instruction.When.TheVariants.{Always}
 use Rattle.hard_ir.specs.declared.instruction.HInst.{HInst}
 use Rattle.hard_ir.specs.declared.instruction.HInst.TheVariants.{Chk, Mov}
 use Rattle.hard_ir.specs.Image.{pair_of}
-use Rattle.hard_ir.specs.Lines.{mark, register_on, is_named_on, register_pair, check_line, copy_line, own_line}
-use Rattle.hard_ir.specs.Standing.{Tables, HasNumbers, AreNumbered, HasKind, AreTokens, renamed_item, HasOwnLine}
+use Rattle.hard_ir.specs.Lines.{HasKind, AreTokens, mark, register_on, is_named_on, register_pair, check_line, copy_line, own_line}
+use Rattle.hard_ir.specs.Standing.{Tables, HasNumbers, AreNumbered, renamed_item, HasOwnLine}
 use Rattle.hard_grammar.proofs.Words.{OneWord, AnInt, APtr}
-use Rattle.hard_grammar.proofs.Ordinary.{all_append, marked}
+use Rattle.hard_grammar.proofs.Ordinary.{all_append, marked, named_bytes}
 
--- the register's number is that of bytes that may stand in a name
+-- the register's number is that of a name
 pub record IsNamed (tables : Tables) (reg : Loc) : Type 0 where
   pub name : List ℕ
-  pub bytes : list_all is_name_byte name ≡ true
+  pub is : is_name name ≡ true
   pub number : reg.0 ≡ number_given tables.locals name
 
 -- a type of one word, or the type of what a `cmpxchg` gives on such a type
@@ -217,9 +216,14 @@ names_for tables a b name = record {
 pair_numbered : (tables : Tables) (a b : Side) (name : List ℕ) → drop 3 (mark a ++ name) ≡ name → drop 3 (mark b ++ name) ≡ name → AreNumbered tables 3 (names_for tables a b name) (registers a b name)
 pair_numbered tables a b name e f = ((sym (ap (number_given tables.locals) e), refl), (tt, ((sym (ap (number_given tables.locals) f), refl), tt)))
 
-pair_kinds : (a b : Side) (name : List ℕ) → list_all is_name_byte name ≡ true → AreTokens (registers a b name)
+pair_kinds : (a b : Side) (name : List ℕ) → is_name name ≡ true → AreTokens (registers a b name)
 unfolding IsToken
-pair_kinds a b name e = (marked a name e, (refl, (marked b name e, tt)))
+pair_kinds a b name e = (marked a name (named_bytes name e), (refl, (marked b name (named_bytes name e), tt)))
+
+-- a side and a name are a register of that side
+read_on : (side : Side) (name : List ℕ) → is_name name ≡ true → register_on side (register side 100 name) ≡ Some (place, name)
+read_on M name e = rw e refl
+read_on S name e = rw e refl
 
 -- ---- lines
 
@@ -241,7 +245,7 @@ module _ (tables : Tables) (ty : Ty) (held : IsHeld ty) (reg : Loc) (named : IsN
         tokens = word text ∷ (type.tokens ++ registers a b named.name);
         tree = tree;
         names = names;
-        kinds = (kind, all_append HasKind type.tokens (registers a b named.name) type.kinds (pair_kinds a b named.name named.bytes));
+        kinds = (kind, all_append HasKind type.tokens (registers a b named.name) type.kinds (pair_kinds a b named.name named.is));
         stands = record { shallow = ap is_some (type.open_same (registers a b named.name)); is = means };
         numbered = (tt, all_append (HasNumbers tables 3 names) type.tokens (registers a b named.name) (type.numbered tables names) (pair_numbered tables a b named.name e f));
         is = is;
@@ -261,7 +265,7 @@ module _ (tables : Tables) (ty : Ty) (held : IsHeld ty) (reg : Loc) (named : IsN
       value = ty;
       whole = refl;
       first = type.means;
-      second = record { front = registers M S named.name; back = []; value = place; whole = refl; first = pair_read M S named.name refl (bytes_same (mark S ++ named.name)); second = (refl, refl) };
+      second = record { front = registers M S named.name; back = []; value = place; whole = refl; first = pair_read M S named.name (read_on M named.name named.is) (bytes_same (mark S ++ named.name)); second = (refl, refl) };
     };
   }))))
 
@@ -279,7 +283,7 @@ module _ (tables : Tables) (ty : Ty) (held : IsHeld ty) (reg : Loc) (named : IsN
       value = ty;
       whole = refl;
       first = type.means;
-      second = record { front = registers S M named.name; back = []; value = place; whole = refl; first = pair_read S M named.name refl (bytes_same (mark M ++ named.name)); second = (refl, refl) };
+      second = record { front = registers S M named.name; back = []; value = place; whole = refl; first = pair_read S M named.name (read_on S named.name named.is) (bytes_same (mark M ++ named.name)); second = (refl, refl) };
     };
   })
 

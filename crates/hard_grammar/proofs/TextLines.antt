@@ -13,7 +13,7 @@ use Rattle.ir_core.specs.declared.instruction.Inst.{Inst}
 use Rattle.ir_core.specs.declared.instruction.Block.{Block}
 use Rattle.ir_core.specs.Module.{ModuleParts, FuncParts, empty_module, with_inst}
 use Rattle.ir_core.specs.Lines.{lines_of, fed}
-use Rattle.ir_core.specs.Tokens.{IsToken}
+use Rattle.ir_core.specs.Tokens.{is_name, IsToken}
 use Rattle.ir_core.specs.TokenLengths.{name_from}
 use Rattle.ir_core.proofs.LineLaws.{lines_joined}
 use Rattle.ir_grammar.specs.declared.trees.TopLine.{TopLine}
@@ -25,11 +25,12 @@ use Rattle.ir_grammar.specs.Tokens.{tokens_of, token_of}
 use Rattle.ir_grammar.specs.Top.{body_line, label_of}
 use Rattle.ir_grammar.specs.Lines.{instruction}
 use Rattle.ir_grammar.specs.Fitting.{IsLine, IsInstruction}
-use Rattle.ir_parse_top.specs.Sheet.{Sheet, Outside, Inside, with_top, with_body, begun, new_block, named_params, counted, counted_params, numeral_at}
+use Rattle.ir_parse_top.specs.Sheet.{Sheet, Outside, Inside, with_top, with_body, begun, new_block, named_params, name_or, counted, counted_params, numeral_at}
 use Rattle.ir_parse_top.specs.Text.{Line, placed, lines_placed, all_moved, pending_of, Says, Leads, Dropped, Blank, Said, Run}
-use Rattle.hard_grammar.proofs.Ordinary.{all_append}
+use Rattle.hard_grammar.proofs.Ordinary.{all_append, all_map}
 use Rattle.hard_grammar.proofs.Parameters.{AreValues, HasValues, line_written, named_written}
 use Rattle.hard_grammar.proofs.LineTokens.{IsSound, IsRead, Lies, all_sound}
+use Rattle.hard_grammar.proofs.WrittenNames.{IsAt, AreAt, NameOfResult, NamesOfParams, NamesOfTop, params_written}
 
 -- ---- where lines lie
 
@@ -100,49 +101,101 @@ module _ (text more : List ℕ) where
     Written : IsToken true Label (name_from whole label.0 ++ codes ":") → IsLabel n label
     Unwritten : (k : ℕ) → k ≤ n → label ≡ numeral_at text k → IsLabel n label
 
+  -- the longest name that begins at a place of the text is one
+  abbrev pub IsNameAt : Loc → Type 0
+  IsNameAt at = is_name (name_from whole at.0) ≡ true
+
+  -- A parameter has a name that a line writes, or one of the same numbers.
+  pub data IsParam (n : ℕ) (at : Loc) : Type 0 where
+    Named : IsNameAt at → IsParam n at
+    Numbered : (k : ℕ) → k ≤ n → at ≡ numeral_at text k → IsParam n at
+
+  abbrev pub AreParams : ℕ → List (Ty × Loc) → Type 0
+  AreParams n = AllByRecursion (λ param. IsParam n param.1)
+
   pub record IsToldBlock (n : ℕ) (block : Block) : Type 0 where
     pub label : IsLabel n block.label
     pub insts : AllByRecursion IsTold block.insts
 
   pub record IsToldFunc (f : FuncParts) : Type 0 where
     pub params : AreValues f.params
+    pub names : AreParams (length f.params) f.params
     pub each : AllByRecursion (IsToldBlock (length f.params)) f.blocks
 
   abbrev pub IsToldSheet : Sheet → Type 0
   IsToldSheet (Outside tree) = AllByRecursion IsToldFunc tree.funcs
-  IsToldSheet (Inside tree f entry pending) = AllByRecursion IsToldFunc tree.funcs × AllByRecursion (IsToldBlock (length f.params)) f.blocks × IsLabel (length f.params) entry × AreSound pending × AreValues f.params
+  IsToldSheet (Inside tree f entry pending) = AllByRecursion IsToldFunc tree.funcs × AllByRecursion (IsToldBlock (length f.params)) f.blocks × IsLabel (length f.params) entry × AreSound pending × AreValues f.params × AreParams (length f.params) f.params
+
+  -- ---- names
+
+  token_named : (t : Token) → IsSound text whole t → IsAt IsNameAt (token_of text t).at (token_of text t).kind
+  unfolding IsToken
+  token_named t h = by t.kind (token_of text t).text t.start h.kind h.name
+    where
+      by : (kind : TokKind) (own : List ℕ) (at : ℕ) → IsToken true kind own → IsRead whole at own kind → IsAt IsNameAt at kind
+      by Local own at is read = ap is_name (read ∙ ap (drop 1) is.whole) ∙ is.passes
+      by Word own at is read = tt
+      by At own at is read = tt
+      by Label own at is read = tt
+      by Num own at is read = tt
+      by Bytes own at is read = tt
+      by Str own at is read = tt
+      by Hash own at is read = tt
+      by Bang own at is read = tt
+      by Punct own at is read = tt
+
+  pub names_at : (tokens : List Token) → AreSound tokens → AreAt IsNameAt (tokens_of text tokens)
+  names_at = all_map (IsSound text whole) (λ t. IsAt IsNameAt t.at t.kind) (token_of text) token_named
 
   -- ---- lines outside functions
+
+  count_one : (name : Option Loc) → counted text name ≤ 1
+  count_one None = omega arith
+  count_one (Some at) = by _
+    where
+      by : (b : Bool) → (if b then 1 else 0) ≤ 1
+      by true = omega arith
+      by false = omega arith
 
   count_params : (n : ℕ) (params : List (Ty × Option Loc)) → counted_params text n params ≤ n + length params
   unfolding counted_params
   count_params n [] = omega arith
   count_params n (param ∷ params) =
       let h = count_params (n + counted text param.1) params in
-      let one : counted text param.1 ≤ 1 = small param.1 in
+      let one : counted text param.1 ≤ 1 = count_one param.1 in
       omega (arith, h, one)
-    where
-      by : (b : Bool) → (if b then 1 else 0) ≤ 1
-      by true = omega arith
-      by false = omega arith
-
-      small : (name : Option Loc) → counted text name ≤ 1
-      small None = omega arith
-      small (Some at) = by _
 
   params_number : (n : ℕ) (params : List (Ty × Option Loc)) → length (named_params text n params) ≡ length params
   unfolding named_params
   params_number n [] = refl
   params_number n (param ∷ params) = ap suc (params_number (n + counted text param.1) params)
 
-  told_top : (tree : ModuleParts) (line : TopLine) → AllByRecursion IsToldFunc tree.funcs → HasValues line → IsToldSheet (with_top text tree line)
-  told_top tree (tops.Type id ty) told written = told
-  told_top tree (tops.Global global) told written = told
-  told_top tree (tops.Declare declare) told written = told
-  told_top tree (tops.Define head) told written =
+  -- parameters before which there are so many names of digits
+  params_told : (n most : ℕ) (params : List (Ty × Option Loc)) → n + length params ≤ most → NamesOfParams IsNameAt params → AreParams most (named_params text n params)
+  unfolding named_params
+  params_told n most [] le names = tt
+  params_told n most (param ∷ params) le names =
+      let one : counted text param.1 ≤ 1 = count_one param.1 in
+      (by param.1 names.0, params_told (n + counted text param.1) most params (omega (arith, le, one)) names.1)
+    where
+      by : (name : Option Loc) → NameOfResult IsNameAt name → IsParam most (name_or text n name)
+      by None is = Numbered n (omega (arith, le)) refl
+      by (Some at) is = Named is
+
+  told_top : (tree : ModuleParts) (line : TopLine) → AllByRecursion IsToldFunc tree.funcs → HasValues line → NamesOfTop IsNameAt line → IsToldSheet (with_top text tree line)
+  told_top tree (tops.Type id ty) told written names = told
+  told_top tree (tops.Global global) told written names = told
+  told_top tree (tops.Declare declare) told written names = told
+  told_top tree (tops.Define head) told written names =
       let le = count_params 0 head.params in
-      let size = params_number 0 head.params in
-      (told, tt, Unwritten (counted_params text 0 head.params) (omega (arith, le, size)) refl, tt, named_written text 0 head.params written)
+      let size = params_number 0 head.params in (
+        told,
+        tt,
+        Unwritten (counted_params text 0 head.params) (omega (arith, le, size)) refl,
+        tt,
+        named_written text 0 head.params written,
+        params_told 0 (length (named_params text 0 head.params)) head.params (omega (arith, size)) names,
+      )
 
   -- ---- lines inside functions
 
@@ -182,7 +235,7 @@ module _ (text more : List ℕ) where
   told_body tree f entry tokens (bodies.Label at) told sound is = by is.is
     where
       by_label : IsToken true Label (name_from whole at.0 ++ codes ":") → IsToldSheet (with_body tree f entry (bodies.Label at))
-      by_label h = (told.0, all_append (IsToldBlock (length f.params)) f.blocks (new_block at ∷ []) told.1 (record { label = Written h; insts = tt }, tt), told.2, tt, told.4)
+      by_label h = (told.0, all_append (IsToldBlock (length f.params)) f.blocks (new_block at ∷ []) told.1 (record { label = Written h; insts = tt }, tt), told.2, tt, told.4, told.5)
 
       by : body_line.means (tokens_of text tokens) (bodies.Label at) → IsToldSheet (with_body tree f entry (bodies.Label at))
       by (inl h) =
@@ -198,10 +251,10 @@ module _ (text more : List ℕ) where
       by (inr (inr h)) =
           let same : h.value ≡ inst = cc in
           let it : IsTold inst = record { tokens = tokens; sound = sound; stands = record { shallow = is.shallow; is = subst (λ (i : Inst). instruction.means (tokens_of text tokens) i) same h.is } } in
-          (told.0, inst_told (length f.params) (begun entry f.blocks) inst it (begun_told (length f.params) entry f.blocks told.2 told.1), told.2, tt, told.4)
+          (told.0, inst_told (length f.params) (begun entry f.blocks) inst it (begun_told (length f.params) entry f.blocks told.2 told.1), told.2, tt, told.4, told.5)
   told_body tree f entry tokens bodies.End told sound is =
       all_append IsToldFunc tree.funcs (record f { blocks = begun entry f.blocks } ∷ []) told.0
-      (record { params = told.4; each = begun_told (length f.params) entry f.blocks told.2 told.1 }, tt)
+      (record { params = told.4; names = told.5; each = begun_told (length f.params) entry f.blocks told.2 told.1 }, tt)
 
   -- ---- all lines
 
@@ -210,9 +263,11 @@ module _ (text more : List ℕ) where
   pending_told (Inside tree f entry pending) told = told.3
 
   says_told : (sheet next : Sheet) (tokens : List Token) → AreSound tokens → IsToldSheet sheet → Says text sheet tokens next → IsToldSheet next
-  says_told (Outside tree) next tokens sound told h = subst IsToldSheet (sym h.2) (told_top tree h.0 told (line_written (tokens_of text tokens) h.0 h.1.is))
-  says_told (Inside tree f entry pending) next tokens sound told (inl h) = subst IsToldSheet (sym h.2) (told_body tree f entry tokens h.0 (told.0, told.1, told.2, tt, told.4) sound h.1)
-  says_told (Inside tree f entry pending) next tokens sound told (inr h) = subst IsToldSheet (sym h.1) (told.0, told.1, told.2, sound, told.4)
+  says_told (Outside tree) next tokens sound told h =
+      let names = params_written IsNameAt (tokens_of text tokens) h.0 h.1.is (names_at tokens sound) in
+      subst IsToldSheet (sym h.2) (told_top tree h.0 told (line_written (tokens_of text tokens) h.0 h.1.is) names)
+  says_told (Inside tree f entry pending) next tokens sound told (inl h) = subst IsToldSheet (sym h.2) (told_body tree f entry tokens h.0 (told.0, told.1, told.2, tt, told.4, told.5) sound h.1)
+  says_told (Inside tree f entry pending) next tokens sound told (inr h) = subst IsToldSheet (sym h.1) (told.0, told.1, told.2, sound, told.4, told.5)
 
   leads_told : (sheet next : Sheet) (line : Line) → LineLies text whole line → IsToldSheet sheet → Leads text sheet line next → IsToldSheet next
   leads_told sheet next line lies told (Dropped _ e) = subst IsToldSheet (sym e) told

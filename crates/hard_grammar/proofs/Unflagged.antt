@@ -22,7 +22,8 @@ use Rattle.ir_grammar.specs.Lines.{binary, comparison, selection, conversion, el
 use Rattle.ir_grammar.specs.Fitting.{bracket_of, open_behind, open_after}
 use Rattle.ir_numbering.specs.Renaming.{Renaming, renamed_inst}
 use Rattle.hard_ir.specs.Image.{unflagged, no_flags}
-use Rattle.hard_ir.specs.Standing.{Tables, HasKind, HasNumbers}
+use Rattle.hard_ir.specs.Lines.{HasKind}
+use Rattle.hard_ir.specs.Standing.{Tables, HasNumbers}
 use Rattle.hard_grammar.proofs.Ordinary.{HasOrdinaryLine}
 
 -- The line without some tokens: what held of all its tokens holds of all that are left, and as many brackets are open at its end.

@@ -8,7 +8,7 @@ use Rattle.ir_parse_top.specs.Text.{IsOfText}
 use Rattle.ir_check.specs.Faults.{IsAccepted}
 use Rattle.hard_ir.specs.declared.instruction.HInst.{HInst}
 use Rattle.hard_ir.specs.declared.instruction.HBlock.{HBlock}
-use Rattle.hard_ir.specs.Image.{Table, phi_image}
+use Rattle.hard_ir.specs.Image.{Table, phi_image, split_table, ticked}
 
 -- types, globals, declares and the heads of functions; and for each function its hardened blocks
 pub record HardParts : Type 0 where
@@ -54,9 +54,24 @@ hard_func table f = hard_blocks table f 0 f.blocks
 abbrev pub hardened_by : Table → ModuleParts → HardParts
 hardened_by table m = record { heads = heads_of m; funcs = map (hard_func table) m.funcs }
 
--- what the columns make of some accepted module of a text
-pub record IsHardenedBy (table : Table) (h : HardParts) : Type 0 where
+-- the ticks of each block get their numbers
+abbrev pub ticked_block : HBlock → HBlock
+ticked_block block = record block { list = ticked 0 block.list }
+
+abbrev pub ticked_module : HardParts → HardParts
+ticked_module h = record h { funcs = map (map ticked_block) h.funcs }
+
+-- the hardened module of the whole table
+abbrev pub harden : ModuleParts → HardParts
+harden m = ticked_module (hardened_by (split_table m) m)
+
+-- what is made of some accepted module of a text
+pub record IsMadeBy (make : ModuleParts → HardParts) (h : HardParts) : Type 0 where
   pub source : ModuleParts
   pub accepted : IsAccepted source
   pub of_text : IsOfText source
-  pub is : h ≡ hardened_by table source
+  pub is : h ≡ make source
+
+-- what the columns make of one
+abbrev pub IsHardenedBy : Table → HardParts → Type 0
+IsHardenedBy table = IsMadeBy (hardened_by table)

@@ -2,12 +2,13 @@
 --
 -- Choices: hardened text is the tool's own. A line that does an instruction of the source is that instruction's ordinary line (LLVM
 -- Language Reference, 'Instruction Reference'), in which the side of each register is written before its name, `%m.x` or `%s.x`, and
--- with a `*` behind all else where it retires. So the ordinary line says what the hardened one stands for. Labels and named types are
--- written as they are. In what a line stands for, a name is told by the place where it begins: in an instruction by its place in the
--- ordinary line, in a line of hardened text's own by the place behind the side.
-use Rattle.std.specs.Prelude.{ℕ, ◌≡◌, ◌+◌, ◌^◌, nat_eq, Bool, false, List, [], ◌∷◌, ◌++◌, drop, map, codes, Option, Some, None, is_some, if◌then◌else◌}
+-- with a `*` after all else where it retires. So the ordinary line says what the hardened one stands for. Labels and named types are
+-- written as they are. In what a line stands for, a name is given by the place where it begins: in an instruction by its place in the
+-- ordinary line, in a line of hardened text's own by the place after the side. What stands after a side is a name as it is after `%`: a
+-- word or a numeral.
+use Rattle.std.specs.Prelude.{ℕ, ◌≡◌, ◌+◌, ◌^◌, ◌&&◌, nat_eq, Bool, true, false, List, [], ◌∷◌, ◌++◌, drop, map, codes, Option, Some, None, is_some, if◌then◌else◌}
 use Rattle.std.specs.Str.{bytes_eq}
-use Rattle.std.specs.List.{flat_map, list_any, starts_with}
+use Rattle.std.specs.List.{AllByRecursion, flat_map, list_any, starts_with}
 use Rattle.ir_core.specs.declared.text.TokKind.TheVariants.{Local}
 use Rattle.ir_core.specs.declared.types.Loc.{Loc}
 use Rattle.ir_core.specs.declared.types.Ty.{Ty}
@@ -25,12 +26,22 @@ use Rattle.ir_grammar.specs.Types.{memory_type, any_type}
 use Rattle.ir_grammar.specs.Values.{constant_head, value_rest}
 use Rattle.ir_grammar.specs.Fitting.{IsInstruction}
 use Rattle.ir_core.specs.Instructions.{result_of}
+use Rattle.ir_core.specs.Tokens.{is_name, IsToken}
 use Rattle.hard_ir.specs.declared.instruction.When.{When}
 use Rattle.hard_ir.specs.declared.instruction.When.TheVariants.{Always, Plain, Tx}
 use Rattle.hard_ir.specs.declared.instruction.HVal.{HVal}
 use Rattle.hard_ir.specs.declared.instruction.HVal.TheVariants as operands
 use Rattle.hard_ir.specs.declared.instruction.HInst.{HInst}
 use Rattle.hard_ir.specs.declared.instruction.HInst.TheVariants.{Cut, Begin, End, Tick, Chk, ChkMem, Mov}
+
+-- ---- tokens
+
+-- the token has a text of its kind
+abbrev pub HasKind : Tok → Type 0
+HasKind t = IsToken true t.kind t.text
+
+abbrev pub AreTokens : List Tok → Type 0
+AreTokens = AllByRecursion HasKind
 
 -- ---- sides
 
@@ -68,19 +79,24 @@ sided side inst t = elim t.kind as (λ _. Tok) [ Local ↦ if is_register_at ins
 abbrev pub asterisk : ℕ
 asterisk = 42
 
--- the tokens do the instruction on a side, and retire it or don't
+-- the tokens do the instruction on a side, and retire it or don't; those of the ordinary line have texts of their kinds, so that a name stands after each `%`
 pub record DoesInst (side : Side) (inst : Inst) (retires : Bool) (tokens : List Tok) : Type 0 where
   pub line : List Tok
   pub back : List Tok
+  pub kinds : AreTokens line
   pub ordinary : IsInstruction line inst
   pub end : IsOptional (is_punct asterisk) back retires
   pub whole : tokens ≡ map (sided side inst) line ++ back
 
 -- ---- registers in hardened text's own lines
 
+-- the text is a side and a name
+abbrev pub is_sided_name : Side → List ℕ → Bool
+is_sided_name side text = starts_with nat_eq text (mark side) && is_name (drop 3 text)
+
 -- a register of a side, by the place where its name begins, with its name
 abbrev pub register_on : Side → Tok → Option (Loc × List ℕ)
-register_on side t = elim t.kind as (λ _. Option (Loc × List ℕ)) [ Local ↦ if starts_with nat_eq t.text (mark side) then Some (record { 0 = t.at + 3 }, drop 3 t.text) else None | _ ↦ None ]
+register_on side t = elim t.kind as (λ _. Option (Loc × List ℕ)) [ Local ↦ if is_sided_name side t.text then Some (record { 0 = t.at + 3 }, drop 3 t.text) else None | _ ↦ None ]
 
 -- the register of this name of a side
 abbrev pub is_named_on : Side → List ℕ → Tok → Bool

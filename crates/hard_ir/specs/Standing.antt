@@ -1,7 +1,7 @@
 -- Which labels, phis and instructions of a hardened module have a line in hardened text.
 --
 -- Choices: a line is a list of tokens each of which has a text of its kind, and not the bytes of such a line. What the tokens stand for
--- tells names by places; the item has the numbers of these names. A renaming counts only at places where the tokens' names begin. A
+-- gives names by places; the item has the numbers of these names. A renaming counts only at places where the tokens' names begin. A
 -- line without registers is the master's.
 use Rattle.std.specs.Prelude.{ℕ, ◌≡◌, ◌+◌, Bool, true, false, List, [], ◌++◌, drop, codes, Some, slice_get}
 use Rattle.std.specs.List.{AllByRecursion}
@@ -25,7 +25,7 @@ use Rattle.hard_ir.specs.declared.instruction.HInst.TheVariants.{Chk, ChkMem, Mo
 use Rattle.hard_ir.specs.declared.instruction.HBlock.{HBlock}
 use Rattle.hard_ir.specs.Hardened.{HardParts}
 use Rattle.hard_ir.specs.Fit.{must_retire}
-use Rattle.hard_ir.specs.Lines.{registers_of, DoesInst, own_line}
+use Rattle.hard_ir.specs.Lines.{AreTokens, registers_of, DoesInst, own_line}
 
 -- ---- names
 
@@ -38,7 +38,7 @@ pub record Tables : Type 0 where
 abbrev pub tables_of : ModuleParts → FuncParts → Tables
 tables_of m f = record { locals = f.names; structs = m.type_names; globals = m.syms }
 
--- By the renaming, the name of a token has its number, where a register's name stands behind so many bytes.
+-- By the renaming, the name of a token has its number, where a register's name stands after so many bytes.
 abbrev pub IsNumbered : Tables → ℕ → Renaming → ℕ → List ℕ → TokKind → Type 0
 IsNumbered tables skip r at text Local = (r.loc (at + skip) ≡ number_given tables.locals (drop skip text)) × (r.type_id (at + 1) ≡ number_given tables.structs (drop 1 text))
 IsNumbered tables skip r at text At = r.sym (at + 1) ≡ number_given tables.globals (drop 1 text)
@@ -50,21 +50,15 @@ HasNumbers tables skip r t = IsNumbered tables skip r t.at t.text t.kind
 abbrev pub AreNumbered : Tables → ℕ → Renaming → List Tok → Type 0
 AreNumbered tables skip r = AllByRecursion (HasNumbers tables skip r)
 
--- the token has a text of its kind
-abbrev pub HasKind : Tok → Type 0
-HasKind t = IsToken true t.kind t.text
-
-abbrev pub AreTokens : List Tok → Type 0
-AreTokens = AllByRecursion HasKind
-
 -- ---- lines
 
 abbrev pub renamed_operand : Renaming → HVal → HVal
 renamed_operand r (operands.Reg reg) = operands.Reg (record reg { loc = renamed_loc r reg.loc })
 renamed_operand r (operands.Const val) = operands.Const (renamed_val r val)
 
--- an item of hardened text's own, its names numbered
+-- an item, its names numbered
 abbrev pub renamed_item : Renaming → HInst → HInst
+renamed_item r (Do side inst retires) = Do side (renamed_inst r inst) retires
 renamed_item r (Chk when ty reg) = Chk when (renamed_ty r ty) (renamed_loc r reg)
 renamed_item r (ChkMem ty ptr val) = ChkMem ty (renamed_operand r ptr) (renamed_operand r val)
 renamed_item r (Mov ty reg) = Mov (renamed_ty r ty) (renamed_loc r reg)

@@ -1,6 +1,9 @@
 //! Hardened instructions and the blocks that they stand in.
 use ir_core::{Inst, Loc, Seq, Side, Ty, Val};
 
+/// A list of hardened instructions is shorter than this: one that would reach it finds no memory.
+pub const LIST_LIMIT: usize = 4_294_967_295;
+
 /// A register of one side.
 #[derive(Clone, Copy, PartialEq, Eq)]
 pub struct HReg {

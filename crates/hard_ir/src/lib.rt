@@ -13,4 +13,6 @@ mod instruction;
 mod widths;
 
 pub use hardened::Hardened;
-pub use instruction::{HBlock, HBlocks, HFuncs, HInst, HInsts, HPhis, HReg, HVal, When};
+pub use instruction::{
+    HBlock, HBlocks, HFuncs, HInst, HInsts, HPhis, HReg, HVal, LIST_LIMIT, When,
+};

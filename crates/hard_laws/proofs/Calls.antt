@@ -16,12 +16,15 @@ use Rattle.ir_lines.specs.Lines.{Line, TypeLine, GlobalLine, DeclareLine, HeadLi
 use Rattle.ir_calls.specs.declared.externals.External.{External}
 use Rattle.ir_calls.specs.declared.externals.External.TheVariants.{PthreadCreate, PthreadJoin}
 use Rattle.ir_calls.specs.Calls.{Standing, of_global, of_declare, of_func, first_standing, standing_of, is_function, is_callable, is_plain, args_plain, are_plain, values_of, plain_step, is_plain_init, takes, is_start, names_start, third_is_start, second_is_null, without_third, args_keep, result_keeps, call_keeps, inst_keeps, external_named, calls_keep}
+use Rattle.hard_ir.specs.declared.instruction.HVal.{HVal}
 use Rattle.hard_ir.specs.declared.instruction.HInst.{HInst}
 use Rattle.hard_ir.specs.declared.instruction.HInst.TheVariants.{ChkMem, Do}
-use Rattle.hard_ir.specs.Image.{Table, unflagged}
+use Rattle.hard_ir.specs.Image.{Table, unflagged, on_shadow}
+use Rattle.std.proofs.lemmas.List.Folds.{list_all-append}
+use Rattle.ir_core.proofs.Lengths.{both_true}
 use Rattle.hard_ir.specs.Hardened.{head_of, heads_of, hardened_by}
-use Rattle.hard_ir.specs.Fit.{HardFunc, HInstLine, hard_calls_keep, outer_lines}
-use Rattle.hard_laws.proofs.Members.{all-in}
+use Rattle.hard_ir.specs.Fit.{HardFunc, HInstLine, constant_in, hard_calls_keep, outer_lines}
+use Rattle.ir_check.proofs.Members.{all-in}
 use Rattle.hard_laws.proofs.Images.{is_quiet, IsPart}
 use Rattle.hard_laws.proofs.HardLines.{EachKeeps, hard_of, both}
 use Rattle.hard_laws.proofs.Accepted.{Sound, head-line, inst-line, of-code, outer-line}
@@ -103,12 +106,27 @@ calls-unflagged : (m : ModuleParts) (inst : Inst) → inst_keeps m (unflagged in
 calls-unflagged m (insts.Bin dst op flags w a b) = refl
 calls-unflagged m inst = refl
 
+-- no function's name stands in an operand on the shadow's side either
+shadow-plain : (m : ModuleParts) (val : Val) → is_plain m val ≡ true → are_plain m (constant_in (on_shadow val)) ≡ true
+shadow-plain m (values.Reg reg) e = refl
+shadow-plain m (values.Int n) e = refl
+shadow-plain m values.Null e = refl
+shadow-plain m (values.Global sym) e = both e refl
+shadow-plain m (values.Gep gep) e = both e refl
+
 module _ (table : Table) (m : ModuleParts) (sound : Sound m) where
   call-part : (n b i : ℕ) (f : HardFunc) (inst : Inst) (item : HInst) → inst_keeps m inst ≡ true → IsPart inst item
       → hard_calls_keep (hardened_by table m) (HInstLine n f b i item) ≡ true
   call-part n b i f inst (Do side other retires) e (same, retire) =
       both (ap (inst_keeps (heads_of m)) same ∙ calls-unflagged (heads_of m) inst ∙ inst-same m inst ∙ e) refl
-  call-part n b i f inst (ChkMem ty ptr val) e part = absurd part
+  call-part n b i f inst (ChkMem ty ptr val) e (p, v, of_ptr, of_val, store) =
+      let stored : are_plain m (v ∷ p ∷ []) ≡ true = sym (ap (inst_keeps m) store) ∙ e in
+      let word = both_true (is_plain m v) (is_plain m p && true) stored in
+      let pointer = both_true (is_plain m p) true word.1 in
+      both refl
+      (vals-same m (constant_in ptr ++ constant_in val)
+      ∙ ap (λ (x : HVal). are_plain m (constant_in x ++ constant_in val)) of_ptr ∙ ap (λ (x : HVal). are_plain m (constant_in (on_shadow p) ++ constant_in x)) of_val
+      ∙ list_all-append (is_plain m) (constant_in (on_shadow p)) (constant_in (on_shadow v)) ∙ both (shadow-plain m p pointer.0) (shadow-plain m v word.0))
   call-part n b i f inst item e part = refl
 
   call-quiet : (n b i : ℕ) (f : HardFunc) (item : HInst) → is_quiet item ≡ true → hard_calls_keep (hardened_by table m) (HInstLine n f b i item) ≡ true

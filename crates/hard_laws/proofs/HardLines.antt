@@ -18,7 +18,7 @@ use Rattle.hard_ir.specs.declared.instruction.HInst.{HInst}
 use Rattle.hard_ir.specs.Image.{Table, copy_of, phi_image}
 use Rattle.hard_ir.specs.Hardened.{head_of, at_entry, at_head, hard_block, hard_blocks, hard_func, hardened_by}
 use Rattle.hard_ir.specs.Fit.{HardFunc, hard_funcs, HardLine, OuterLine, HBlockLine, HPhiLine, HInstLine, phi_lines, inst_lines, block_lines, blocks_lines, funcs_lines, outer_lines, hard_lines}
-use Rattle.hard_laws.proofs.Members.{IsIn, next-in}
+use Rattle.ir_check.proofs.Members.{IsIn, next-in}
 use Rattle.hard_laws.proofs.Images.{is_quiet, IsPart, AreParts, IsTable}
 
 -- the hardened function

@@ -3,6 +3,7 @@ use Rattle.std.proofs.Common.{◌≡◌, Bool, true, false, ◌||◌, not, List,
 use Rattle.std.specs.List.{filter_map, cons_option, list_all, list_any}
 use Rattle.ir_core.specs.declared.types.Ty.{Ty}
 use Rattle.ir_core.specs.declared.types.Loc.{Loc}
+use Rattle.ir_core.specs.declared.values.Val.{Val}
 use Rattle.ir_core.specs.declared.values.Val.TheVariants as values
 use Rattle.ir_core.specs.declared.values.Side.{Side}
 use Rattle.ir_core.specs.declared.values.Side.TheVariants.{M, S}
@@ -16,9 +17,9 @@ use Rattle.ir_check.specs.Blocks.{is_terminator}
 use Rattle.ir_core.specs.Instructions.{is_phi}
 use Rattle.hard_ir.specs.declared.instruction.HInst.{HInst}
 use Rattle.hard_ir.specs.declared.instruction.HInst.TheVariants.{Cut, Begin, End, Tick, Chk, ChkMem, Mov, Do}
-use Rattle.hard_ir.specs.Image.{Table, unflagged, single_result, copy_of}
+use Rattle.hard_ir.specs.Image.{Table, unflagged, single_result, copy_of, on_shadow}
 use Rattle.hard_ir.specs.Fit.{plain_inst, meaning_in, must_retire}
-use Rattle.hard_laws.proofs.Members.{IsIn}
+use Rattle.ir_check.proofs.Members.{IsIn}
 
 -- an item that reads and defines nothing
 abbrev pub is_quiet : HInst → Bool
@@ -34,12 +35,12 @@ is_silent (Do side inst retires) = false
 is_silent (Mov ty reg) = false
 is_silent item = true
 
--- One of an image: it does the instruction, copies its result or checks one of its operands.
+-- One of an image: it does the instruction, copies its result, checks one of its operands, or checks what it stored.
 abbrev pub IsPart : Inst → HInst → Type 0
 IsPart inst (Do side other retires) = (other ≡ unflagged inst) × ((retires || not (must_retire inst)) ≡ true)
 IsPart inst (Mov ty reg) = single_result inst ≡ Some (ty, reg)
 IsPart inst (Chk when ty reg) = IsIn (ty, values.Reg reg) (typed_operands inst)
-IsPart inst (ChkMem ty ptr val) = ⊥
+IsPart inst (ChkMem ty ptr val) = (p : Val) × (v : Val) × (ptr ≡ on_shadow p) × (val ≡ on_shadow v) × (inst ≡ insts.Store ty v p false)
 IsPart inst other = Unit {0}
 
 abbrev pub AreParts : Inst → List HInst → Type 0

@@ -1,4 +1,3 @@
-pub mod Members
 pub mod Images
 pub mod Rows
 pub mod HardLines
@@ -16,3 +15,5 @@ pub mod Meanings
 pub mod Results
 pub mod Types
 pub mod Fitting
+pub mod ImageRows
+pub mod Numbered

@@ -1,5 +1,5 @@
 -- The lines of a hardened module keep the limits, and have their forms.
-use Rattle.std.proofs.Common.{ℕ, zero, suc, ◌≡◌, ◌∙◌, ◌+◌, Bool, true, false, ◌||◌, ◌&&◌, not, List, [], ◌∷◌, ◌++◌, map, slice_get, Option, Some, None, refl, ap, subst, ◌⊎◌, inl, inr}
+use Rattle.std.proofs.Common.{ℕ, zero, suc, ◌≡◌, ◌∙◌, ◌+◌, Bool, true, false, ◌||◌, ◌&&◌, not, List, [], ◌∷◌, ◌++◌, map, slice_get, Option, Some, None, refl, ap, sym, subst, ◌⊎◌, inl, inr}
 use Rattle.std.specs.Prelude.{if◌then◌else◌, is_none}
 use Rattle.std.specs.List.{flat_map, list_all}
 use Rattle.std.specs.Option.{option_or}
@@ -23,12 +23,14 @@ use Rattle.ir_lines.specs.Lines.{Line, TypeLine, GlobalLine, DeclareLine, HeadLi
 use Rattle.ir_types.specs.Types.{typed_operands, typed_index}
 use Rattle.ir_core.specs.Instructions.{is_phi}
 use Rattle.ir_check.specs.CodeLimits.{limit_in}
+use Rattle.hard_ir.specs.declared.instruction.HVal.{HVal}
 use Rattle.hard_ir.specs.declared.instruction.HInst.{HInst}
 use Rattle.hard_ir.specs.declared.instruction.HInst.TheVariants.{Chk, ChkMem, Mov, Do}
-use Rattle.hard_ir.specs.Image.{Table, unflagged, single_result, pair_of}
+use Rattle.hard_ir.specs.Image.{Table, unflagged, single_result, pair_of, on_shadow}
+use Rattle.std.proofs.lemmas.List.Folds.{list_all-append}
 use Rattle.hard_ir.specs.Hardened.{hardened_by}
-use Rattle.hard_ir.specs.Fit.{HardFunc, HardLine, HInstLine, pair_part, keeps_as_part, limit_of_register, limits_keep, forms_keep, must_retire, outer_lines}
-use Rattle.hard_laws.proofs.Members.{IsIn, of-append, of-map, in-map, in-front, next-in, all-in}
+use Rattle.hard_ir.specs.Fit.{HardFunc, HardLine, HInstLine, pair_part, keeps_as_part, types_in_operand, limit_of_register, limits_keep, forms_keep, must_retire, outer_lines}
+use Rattle.ir_check.proofs.Members.{IsIn, of-append, of-map, in-map, in-front, next-in, all-in}
 use Rattle.hard_laws.proofs.Images.{phi-unflagged, is_quiet, IsPart}
 use Rattle.hard_laws.proofs.Scalars.{int-limit, ptr-limit, pair-part}
 use Rattle.hard_laws.proofs.HardLines.{EachKeeps, hard_of}
@@ -155,6 +157,29 @@ module _ (named : List (TypeId × Ty)) where
   copied-kept (insts.Call None ret callee args) reg l e = cc
   copied-kept inst reg l e = cc
 
+-- a shadow's operand writes the types that the operand does
+shadow-types : (val : Val) → types_in_operand (on_shadow val) ≡ types_in_val val
+shadow-types (values.Reg reg) = refl
+shadow-types (values.Int n) = refl
+shadow-types values.Null = refl
+shadow-types (values.Global sym) = refl
+shadow-types (values.Gep gep) = refl
+
+-- in whatever order types are written
+all-turned : (p : Ty → Bool) (xs ys : List Ty) → list_all p (xs ++ ys) ≡ list_all p (ys ++ xs)
+all-turned p xs ys = list_all-append p xs ys ∙ by_tests (list_all p xs) (list_all p ys) ∙ sym (list_all-append p ys xs)
+  where
+    by_tests : (a b : Bool) → (a && b) ≡ (b && a)
+    by_tests true true = refl
+    by_tests true false = refl
+    by_tests false true = refl
+    by_tests false false = refl
+
+turned-kept : (named : List (TypeId × Ty)) (ty : Ty) (xs ys : List Ty) → limit_among named (ty ∷ xs ++ ys) ≡ limit_among named (ty ∷ ys ++ xs)
+turned-kept named ty xs ys =
+    ap (λ (b : Bool). if not (not (is_too_large (limit_of named ty)) && b) then Some TypeSize else if not (not (is_too_deep (limit_of named ty)) && list_all (λ t. not (is_too_deep (limit_of named t))) (xs ++ ys)) then Some TypeDepth else None) (all-turned (λ t. not (is_too_large (limit_of named t))) xs ys)
+    ∙ ap (λ (b : Bool). if not (not (is_too_large (limit_of named ty)) && list_all (λ t. not (is_too_large (limit_of named t))) (ys ++ xs)) then Some TypeSize else if not (not (is_too_deep (limit_of named ty)) && b) then Some TypeDepth else None) (all-turned (λ t. not (is_too_deep (limit_of named t))) xs ys)
+
 types-unflagged : (inst : Inst) → types_in_inst (unflagged inst) ≡ types_in_inst inst
 types-unflagged (insts.Bin dst op flags w a b) = refl
 types-unflagged inst = refl
@@ -179,7 +204,13 @@ module _ (table : Table) (m : ModuleParts) (sound : Sound m) where
   limit-part n b i f inst (Do side other retires) e l (same, retire) = ap is_none (ap (λ (x : Inst). limit_among m.types (types_in_inst x)) same ∙ ap (limit_among m.types) (types-unflagged inst) ∙ l)
   limit-part n b i f inst (Mov ty reg) e l part = ap is_none (copied-kept m.types inst (ty, reg) (λ t h. kept-in m.types t (types_in_inst inst) l h) part)
   limit-part n b i f inst (Chk when ty reg) e l part = ap is_none (register-kept m.types ty (of-kept m.types (ty, values.Reg reg) (typed_operands inst) (operands-kept m.types inst e (λ t h. kept-in m.types t (types_in_inst inst) l h)) part))
-  limit-part n b i f inst (ChkMem ty ptr val) e l part = absurd part
+  limit-part n b i f inst (ChkMem ty ptr val) e l (p, v, of_ptr, of_val, store) =
+      ap is_none
+      (ap (λ (x : HVal). limit_among m.types (ty ∷ types_in_operand x ++ types_in_operand val)) of_ptr
+      ∙ ap (λ (x : HVal). limit_among m.types (ty ∷ types_in_operand (on_shadow p) ++ types_in_operand x)) of_val
+      ∙ ap (λ (x : List Ty). limit_among m.types (ty ∷ x ++ types_in_operand (on_shadow v))) (shadow-types p)
+      ∙ ap (λ (x : List Ty). limit_among m.types (ty ∷ types_in_val p ++ x)) (shadow-types v)
+      ∙ turned-kept m.types ty (types_in_val p) (types_in_val v) ∙ ap (λ (x : Inst). limit_among m.types (types_in_inst x)) (sym store) ∙ l)
   limit-part n b i f inst item e l part = refl
 
   limit-quiet : (n b i : ℕ) (f : HardFunc) (item : HInst) → is_quiet item ≡ true → limits_keep (hardened_by table m) (HInstLine n f b i item) ≡ true

@@ -25,12 +25,13 @@ use Rattle.ir_lines.specs.declared.site.Named.TheVariants as names
 use Rattle.ir_names.specs.Names.{is_defined, name_at, mentions_in}
 use Rattle.ir_types.specs.Types.{typed_operands, typed_index}
 use Rattle.ir_core.specs.Instructions.{is_phi}
+use Rattle.hard_ir.specs.declared.instruction.HVal.{HVal}
 use Rattle.hard_ir.specs.declared.instruction.HInst.{HInst}
 use Rattle.hard_ir.specs.declared.instruction.HInst.TheVariants.{Chk, ChkMem, Mov, Do}
-use Rattle.hard_ir.specs.Image.{Table, unflagged, single_result, pair_of}
+use Rattle.hard_ir.specs.Image.{Table, unflagged, single_result, pair_of, on_shadow}
 use Rattle.hard_ir.specs.Hardened.{hardened_by}
-use Rattle.hard_ir.specs.Fit.{HardFunc, HInstLine, SidedName, outer, label, register, sided, all_sided, mentions_on, mentions_of, names_in_arm, outer_lines, is_known, names_keep}
-use Rattle.hard_laws.proofs.Members.{IsIn, all-in, in-map}
+use Rattle.hard_ir.specs.Fit.{HardFunc, HInstLine, SidedName, outer, label, register, sided, all_sided, mentions_on, mentions_of, names_in_arm, names_in_operand, outer_lines, is_known, names_keep}
+use Rattle.ir_check.proofs.Members.{IsIn, all-in, in-map}
 use Rattle.hard_laws.proofs.Images.{is_quiet, IsPart, IsTable}
 use Rattle.hard_laws.proofs.Scalars.{int-places, ptr-places, pair-places}
 use Rattle.hard_laws.proofs.HardLines.{EachKeeps, IsBlockOf, hard_of, both}
@@ -40,6 +41,14 @@ use Rattle.hard_laws.proofs.Names.{all-other, master-known, shadow-known, plain-
 mentions-unflagged : (n : ℕ) (side : Side) (inst : Inst) → mentions_on n side (unflagged inst) ≡ mentions_on n side inst
 mentions-unflagged n side (insts.Bin dst op flags w a b) = refl
 mentions-unflagged n side inst = refl
+
+-- an operand on the shadow's side has the names of the operand
+shadow-names : (n : ℕ) (val : Val) → names_in_operand n (on_shadow val) ≡ all_sided n S (places_of_val val)
+shadow-names n (values.Reg reg) = refl
+shadow-names n (values.Int k) = refl
+shadow-names n values.Null = refl
+shadow-names n (values.Global sym) = refl
+shadow-names n (values.Gep gep) = refl
 
 -- of two lists of which all pass
 front : {A : Type 0} (p : A → Bool) (xs ys : List A) → list_all p (xs ++ ys) ≡ true → list_all p xs ≡ true
@@ -223,7 +232,15 @@ module _ (known : SidedName → Bool) (n : ℕ) (defined : Place → Bool) (at_s
   part-known inst (Do side other retires) p e (same, retire) = ap (λ (x : Inst). list_all known (mentions_on n side x)) same ∙ ap (list_all known) (mentions-unflagged n side inst) ∙ inst-known side inst e
   part-known inst (Mov ty reg) p e part = pair-known S (ty, reg) S M (result-defined inst (ty, reg) e part)
   part-known inst (Chk when ty reg) p e part = pair-known M (ty, reg) M S (of-defined (ty, values.Reg reg) (typed_operands inst) (operands-defined inst p e) part)
-  part-known inst (ChkMem ty ptr val) p e part = absurd part
+  part-known inst (ChkMem ty ptr val) p e (at, v, of_ptr, of_val, store) =
+      let all : list_all defined ((places_of_ty ty ++ places_of_val v) ++ places_of_val at) ≡ true = ap (λ (x : Inst). list_all defined (places_of_inst x)) (sym store) ∙ e in
+      let typed = front defined (places_of_ty ty ++ places_of_val v) (places_of_val at) all in
+      let types = places-known S (places_of_ty ty) (front defined (places_of_ty ty) (places_of_val v) typed) in
+      let pointer = places-known S (places_of_val at) (back defined (places_of_ty ty ++ places_of_val v) (places_of_val at) all) in
+      let word = places-known S (places_of_val v) (back defined (places_of_ty ty) (places_of_val v) typed) in
+      joined known (all_sided n S (places_of_ty ty) ++ names_in_operand n ptr) (names_in_operand n val)
+      (joined known (all_sided n S (places_of_ty ty)) (names_in_operand n ptr) types (ap (λ (x : HVal). list_all known (names_in_operand n x)) of_ptr ∙ ap (list_all known) (shadow-names n at) ∙ pointer))
+      (ap (λ (x : HVal). list_all known (names_in_operand n x)) of_val ∙ ap (list_all known) (shadow-names n v) ∙ word)
   part-known inst item p e part = refl
 
 -- ---- the lines of a module

@@ -20,7 +20,7 @@ use Rattle.ir_lines.specs.declared.site.Named.TheVariants as names
 use Rattle.ir_names.specs.Names.{same_name, defined_in, definitions}
 use Rattle.ir_types.specs.Firsts.{first_of}
 use Rattle.ir_types.specs.Meanings.{Meaning, Label, Register, Pair, extracted, param_meaning, block_meanings, meanings, result_of}
-use Rattle.hard_laws.proofs.Members.{IsIn, next-in, in-front, in-back, in-map, in-flat, in-filter}
+use Rattle.ir_check.proofs.Members.{IsIn, next-in, in-front, in-back, in-map, in-flat, in-filter}
 use Rattle.hard_laws.proofs.HardLines.{IsBlockOf}
 use Rattle.hard_laws.proofs.Accepted.{Sound}
 use Rattle.hard_laws.proofs.Tallies.{tally, tally-append, counted, nat-same, defined-once}

@@ -28,7 +28,7 @@ use Rattle.hard_ir.specs.declared.instruction.HInst.TheVariants.{Do}
 use Rattle.hard_ir.specs.Image.{Table, copy_of, phi_image}
 use Rattle.hard_ir.specs.Hardened.{at_entry, at_head, hard_block, hard_blocks, hardened_by}
 use Rattle.hard_ir.specs.Fit.{HardFunc, hard_funcs, plain_inst, plain_block, plain_func, plain_line, outer_lines}
-use Rattle.hard_laws.proofs.Members.{all-in}
+use Rattle.ir_check.proofs.Members.{all-in}
 use Rattle.hard_laws.proofs.Images.{phi-unflagged, is_quiet, IsPart, AreParts, EndsAs, IsTable}
 use Rattle.hard_laws.proofs.HardLines.{EachKeeps, IsBlockOf, hard_of, hard-funcs, both}
 use Rattle.hard_laws.proofs.Accepted.{Sound, block-line, of-code, outer-line}

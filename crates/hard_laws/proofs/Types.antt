@@ -20,12 +20,13 @@ use Rattle.ir_types.specs.Firsts.{first_of}
 use Rattle.ir_types.specs.Meanings.{Meaning, Label, Register, Pair, meanings, result_of}
 use Rattle.ir_types.specs.Types.{types_keep, inst_fits, operand_fits, names_label, is_label, form_fits, is_register_of, is_pair_of, typed_operands, labels_in}
 use Rattle.ir_check.specs.Blocks.{ends_well, begins_well}
+use Rattle.hard_ir.specs.declared.instruction.HVal.{HVal}
 use Rattle.hard_ir.specs.declared.instruction.HInst.{HInst}
 use Rattle.hard_ir.specs.declared.instruction.HInst.TheVariants.{Chk, ChkMem, Mov, Do}
-use Rattle.hard_ir.specs.Image.{Table, unflagged, single_result, pair_of}
+use Rattle.hard_ir.specs.Image.{Table, unflagged, single_result, pair_of, on_shadow}
 use Rattle.hard_ir.specs.Hardened.{hardened_by}
-use Rattle.hard_ir.specs.Fit.{HardFunc, hard_meanings, has_type, meaning_fits, result_fits, is_pair_at, uses_fit, source_fits, hard_inst_fits, hard_types_keep, outer_lines}
-use Rattle.hard_laws.proofs.Members.{IsIn, all-in, of-all}
+use Rattle.hard_ir.specs.Fit.{HardFunc, hard_meanings, has_type, operand_has_type, meaning_fits, result_fits, is_pair_at, uses_fit, source_fits, hard_inst_fits, hard_types_keep, outer_lines}
+use Rattle.ir_check.proofs.Members.{IsIn, all-in, of-all}
 use Rattle.hard_laws.proofs.Images.{is_quiet, IsPart, IsTable}
 use Rattle.hard_laws.proofs.HardLines.{EachKeeps, IsBlockOf, hard_of, both}
 use Rattle.hard_laws.proofs.Accepted.{Sound, head-line, block-line, inst-line, of-code, outer-line}
@@ -101,6 +102,14 @@ copied-result (insts.Call (Some dst) own callee args) ty reg test s e =
 copied-result (insts.Call None own callee args) ty reg test s e = absurd cc
 copied-result inst ty reg test s e = absurd cc
 
+-- an operand on the shadow's side fits where the operand does
+shadow-fits : (named : List (TypeId × Ty)) (f : HardFunc) (ty : Ty) (val : Val) → operand_fits named (hard_meanings f) (ty, val) ≡ true → operand_has_type named f ty (on_shadow val) ≡ true
+shadow-fits named f ty (values.Reg reg) e = e
+shadow-fits named f ty (values.Int n) e = e
+shadow-fits named f ty values.Null e = e
+shadow-fits named f ty (values.Global sym) e = e
+shadow-fits named f ty (values.Gep gep) e = e
+
 -- ---- the lines of a module
 
 module _ (table : Table) (is : IsTable table) (m : ModuleParts) (sound : Sound m) where
@@ -149,6 +158,19 @@ module _ (table : Table) (is : IsTable table) (m : ModuleParts) (sound : Sound m
       first true b e = refl
       first false b e = cc
 
+  -- the operands of a store fit
+  stored-operands : (n b : ℕ) (f : FuncParts) (block : Block) (inst : Inst) → IsBlockOf m n f b block → IsIn inst block.insts → (ty : Ty) (v p : Val) → inst ≡ insts.Store ty v p false
+      → list_all (operand_fits m.types (hard_meanings (hard_of table f))) ((ty, v) ∷ (types.Ptr, p) ∷ []) ≡ true
+  stored-operands n b f block inst at h ty v p store =
+      let fits : inst_fits m.types (hard_meanings (hard_of table f)) f.ret (insts.Store ty v p false) ≡ true =
+      ap (inst_fits m.types (hard_meanings (hard_of table f)) f.ret) (sym store)
+      ∙ fits-same m.types (hard_meanings (hard_of table f)) (meanings f) (stands-for n f at.0) f.ret inst ∙ source-types n b f block inst at h in
+      first _ _ (first _ _ fits)
+    where
+      first : (a b : Bool) → (a && b) ≡ true → a ≡ true
+      first true b e = refl
+      first false b e = cc
+
   type-part : (n b i : ℕ) (f : FuncParts) (block : Block) (inst : Inst) (item : HInst) → IsBlockOf m n f b block → IsIn inst block.insts → IsPart inst item → hard_inst_fits m.types (hard_of table f) item ≡ true
   type-part n b i f block inst (Do side other retires) at h (same, retire) =
       ap (λ (x : Inst). source_fits m.types (hard_of table f) x) same
@@ -156,7 +178,13 @@ module _ (table : Table) (is : IsTable table) (m : ModuleParts) (sound : Sound m
       ∙ ap (λ (x : Bool). result_fits (hard_of table f) inst && x) (uses-unflagged m.types (hard_of table f) inst) ∙ source-fit n b f block inst at h
   type-part n b i f block inst (Mov ty reg) at h part = copy-fits n b f block inst ty reg at h part
   type-part n b i f block inst (Chk when ty reg) at h part = check-fits n b f block inst ty reg at h part
-  type-part n b i f block inst (ChkMem ty ptr val) at h part = absurd part
+  type-part n b i f block inst (ChkMem ty ptr val) at h (p, v, of_ptr, of_val, store) =
+      let all = stored-operands n b f block inst at h ty v p store in
+      let word = both_true (operand_fits m.types (hard_meanings (hard_of table f)) (ty, v)) _ all in
+      let pointer = both_true (operand_fits m.types (hard_meanings (hard_of table f)) (types.Ptr, p)) true word.1 in
+      both
+      (ap (λ (x : HVal). operand_has_type m.types (hard_of table f) types.Ptr x) of_ptr ∙ shadow-fits m.types (hard_of table f) types.Ptr p pointer.0)
+      (ap (λ (x : HVal). operand_has_type m.types (hard_of table f) ty x) of_val ∙ shadow-fits m.types (hard_of table f) ty v word.0)
   type-part n b i f block inst item at h part = refl
 
   type-quiet : (f : HardFunc) (item : HInst) → is_quiet item ≡ true → hard_inst_fits m.types f item ≡ true

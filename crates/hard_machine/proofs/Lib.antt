@@ -1,6 +1,3 @@
-mod Locals
-mod Outsides
 mod Phis
-mod Resumed
 mod Settling
 mod Tables

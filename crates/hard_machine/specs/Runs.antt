@@ -5,8 +5,8 @@ use Rattle.turn_runs.specs.Runs.{grouped}
 use Rattle.hard_ir.specs.Hardened.{HardParts}
 use Rattle.hard_machine.specs.declared.outcome.Stop.TheVariants.{Bound}
 use Rattle.hard_machine.specs.declared.outcome.RunResult.{RunResult}
-use Rattle.hard_machine.specs.State.{State, opening}
-use Rattle.hard_machine.specs.Step.{turn_of}
+use Rattle.hard_machine.specs.State.{State}
+use Rattle.hard_machine.specs.Step.{opening, turn_of}
 
 -- an event of a schedule: a turn; an abort changes nothing, since no thread is in a transaction, and upsets aren't known yet
 abbrev pub happened : HardParts → State → Happening → State
@@ -33,4 +33,5 @@ run_on h arguments events = result_of (run_from h (opening h arguments) events)
 -- the event is no upset
 abbrev pub is_no_upset : Happening → Bool
 is_no_upset (UpsetBy upset) = false
-is_no_upset other = true
+is_no_upset (TurnOf thread) = true
+is_no_upset (AbortOf thread) = true

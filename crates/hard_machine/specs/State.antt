@@ -4,33 +4,22 @@
 -- Choices: the masters' registers and the shadows' are two files of one frame. A frame's index counts the instructions of its block's
 -- list, where phis don't stand. A call enters its function with masters alone; the register that waits for its result is one of the
 -- call's own side. No thread is in a transaction: there are none yet.
-use Rattle.std.specs.Prelude.{ℕ, List, [], ◌∷◌, Option, None, slice_get}
+use Rattle.std.specs.Prelude.{ℕ, List, [], Option, None, slice_get}
 use Rattle.std.specs.List.{zip}
 use Rattle.std.specs.Option.{option_map_or}
 use Rattle.ir_core.specs.declared.values.Side.{Side}
 use Rattle.ir_core.specs.declared.values.Side.TheVariants.{M, S}
-use Rattle.ir_layout.specs.Memory.{layout_of}
-use Rattle.mem_image.specs.Bytes.{Memory}
-use Rattle.mem_image.specs.Opening.{opening as opening_memory}
 use Rattle.inst_meaning.specs.Phis.{all_assigned}
-use Rattle.inst_meaning.specs.World.{WorldParts, opening_world}
-use Rattle.src_meaning.specs.State.{params_at, main_of, stack_start}
+use Rattle.process.specs.State.{ProcessParts}
+use Rattle.src_meaning.specs.State.{params_at}
 use Rattle.hard_ir.specs.declared.instruction.HInst.{HInst}
 use Rattle.hard_ir.specs.declared.instruction.HBlock.{HBlock}
 use Rattle.hard_ir.specs.Hardened.{HardParts}
 use Rattle.hard_machine.specs.declared.outcome.Stop.{Stop}
 use Rattle.hard_machine.specs.declared.state.Frame.{Frame}
-use Rattle.hard_machine.specs.declared.state.Thread.{Thread}
-use Rattle.hard_machine.specs.declared.state.Thread.TheVariants.{Running}
-
--- what instructions change
-pub record ProcessParts : Type 0 where
-  pub memory : Memory
-  pub threads : List Thread
-  pub world : WorldParts
 
 pub record State : Type 0 where
-  pub process : ProcessParts
+  pub process : ProcessParts Frame
   pub turns : List ℕ
   pub stop : Option Stop
 
@@ -73,20 +62,3 @@ entry_frame h n words mark = record {
   mark = mark;
   waiting = None;
 }
-
--- a new thread in a function
-abbrev pub new_thread : HardParts → ℕ → ℕ → List ℕ → Thread
-new_thread h t n words = Running (record { mark = stack_start t; frame = entry_frame h n words (stack_start t); callers = [] })
-
--- ---- the opening
-
--- thread 0 stands at the entry of `main`
-abbrev pub opening_process : HardParts → List ℕ → ProcessParts
-opening_process h arguments = record {
-  memory = opening_memory (layout_of h.heads) h.heads.globals;
-  threads = new_thread h 0 (main_of h.heads) [] ∷ [];
-  world = opening_world arguments;
-}
-
-abbrev pub opening : HardParts → List ℕ → State
-opening h arguments = record { process = opening_process h arguments; turns = []; stop = None }

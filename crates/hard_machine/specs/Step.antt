@@ -5,50 +5,44 @@
 -- a failed check and an undefined action stop the machine at their place, and a turn that retires joins the turns of the run at once. A
 -- call that must wait changes nothing and keeps its place. What is for transactions alone (`cut`, `begin`, `end`, `tick`, checks
 -- inside) takes its turn and does nothing.
-use Rattle.std.specs.Prelude.{ℕ, suc, zero, ◌+◌, ◌%◌, ◌^◌, ◌==◌, Bool, true, false, nat_lt, nat_le, List, [], ◌∷◌, ◌++◌, length, map, Option, Some, None, slice_get, slice_set, unwrap_or}
+use Rattle.std.specs.Prelude.{ℕ, suc, zero, ◌%◌, ◌^◌, ◌==◌, Bool, true, false, List, [], ◌∷◌, ◌++◌, map, Option, Some, None, slice_get}
 use Rattle.std.specs.List.{filter_map}
-use Rattle.std.specs.Option.{option_map, option_and_then, is_some}
+use Rattle.std.specs.Option.{option_map, option_and_then}
 use Rattle.ir_core.specs.declared.types.Loc.{Loc}
 use Rattle.ir_core.specs.declared.values.Side.{Side}
 use Rattle.ir_core.specs.declared.values.Side.TheVariants.{M, S}
 use Rattle.ir_core.specs.declared.instruction.Inst.{Inst}
 use Rattle.ir_core.specs.declared.instruction.Block.{Block}
-use Rattle.ir_layout.specs.Shapes.{round_up}
-use Rattle.ir_layout.specs.declared.spans.Span.{Span}
-use Rattle.ir_layout.specs.Memory.{LayoutParts, layout_of, is_valid, thread_limit}
+use Rattle.ir_layout.specs.Memory.{LayoutParts, layout_of}
 use Rattle.ir_flow.specs.Edges.{number_of}
-use Rattle.mem_image.specs.Bytes.{poke}
-use Rattle.inst_meaning.specs.declared.actions.Cause.{Cause}
-use Rattle.inst_meaning.specs.declared.actions.Cause.TheVariants.{Access, Stack, Depth, Join as JoinCause, Unreachable}
-use Rattle.inst_meaning.specs.declared.actions.Reply.{Reply}
-use Rattle.inst_meaning.specs.declared.actions.Reply.TheVariants.{Answers, Waits as MustWait, Refuses}
+use Rattle.mem_image.specs.Opening.{opening as opening_memory}
 use Rattle.inst_meaning.specs.declared.actions.Action.{Action}
-use Rattle.inst_meaning.specs.declared.actions.Action.TheVariants.{Assign, Reserve, Read, Write, Update, Jump, Call, Ask, Create, Join, Exit, Return, Fault}
 use Rattle.inst_meaning.specs.Action.{action_of, callees_of, destination}
-use Rattle.inst_meaning.specs.Accesses.{found, word_read, memory_after}
 use Rattle.inst_meaning.specs.Phis.{phi_words, all_assigned}
-use Rattle.inst_meaning.specs.World.{WorldParts, asked_of}
-use Rattle.src_meaning.specs.declared.state.Step.{Step}
-use Rattle.src_meaning.specs.declared.state.Step.TheVariants.{Went, Waits, Undefined, Ended as EndsProgram}
-use Rattle.src_meaning.specs.State.{stack_start}
-use Rattle.src_meaning.specs.Step.{unless, unless_valid, frame_limit}
 use Rattle.inst_meaning.specs.Registers.{get, put}
+use Rattle.inst_meaning.specs.World.{opening_world}
+use Rattle.process.specs.declared.state.CallStack.{CallStack}
+use Rattle.process.specs.declared.state.Thread.{Thread}
+use Rattle.process.specs.declared.state.Thread.TheVariants.{Running, Exiting, Ended}
+use Rattle.process.specs.declared.state.Step.{Step}
+use Rattle.process.specs.declared.state.Step.TheVariants.{Went, Waits, Idle, Undefined, Ended as EndsProgram}
+use Rattle.process.specs.Frames.{Frames}
+use Rattle.process.specs.State.{ProcessParts, in_frame, new_thread}
+use Rattle.process.specs.Process.{with_thread, acted}
+use Rattle.src_meaning.specs.State.{main_of}
 use Rattle.hard_ir.specs.declared.instruction.When.{When}
 use Rattle.hard_ir.specs.declared.instruction.When.TheVariants.{Always, Plain, Tx}
 use Rattle.hard_ir.specs.declared.instruction.HInst.{HInst}
-use Rattle.hard_ir.specs.declared.instruction.HInst.TheVariants.{Chk, Mov, Do}
+use Rattle.hard_ir.specs.declared.instruction.HInst.TheVariants.{Cut, Begin, End as EndTransaction, Tick, Chk, ChkMem, Mov, Do}
 use Rattle.hard_ir.specs.declared.instruction.HBlock.{HBlock}
 use Rattle.hard_ir.specs.Hardened.{HardParts}
 use Rattle.hard_machine.specs.declared.outcome.Stop.{Stop}
 use Rattle.hard_machine.specs.declared.outcome.Stop.TheVariants.{End, Fail, Trap}
 use Rattle.hard_machine.specs.declared.state.Frame.{Frame}
-use Rattle.hard_machine.specs.declared.state.CallStack.{CallStack}
-use Rattle.hard_machine.specs.declared.state.Thread.{Thread}
-use Rattle.hard_machine.specs.declared.state.Thread.TheVariants.{Running, Exiting, Ended}
-use Rattle.hard_machine.specs.State.{ProcessParts, State, blocks_at, inst_at, file, with_file, entry_frame, new_thread}
+use Rattle.hard_machine.specs.State.{State, blocks_at, inst_at, file, with_file, entry_frame}
 use Rattle.hard_machine.specs.Places.{place_text}
 
--- ---- what becomes of a frame
+-- ---- what a frame can do
 
 abbrev pub passed : Frame → Frame
 passed frame = record frame { index = suc frame.index }
@@ -66,7 +60,8 @@ resulted dst n frame = passed (given_to dst n frame)
 abbrev pub phi_on : Side → Side × Inst → Option Inst
 phi_on M (M, phi) = Some phi
 phi_on S (S, phi) = Some phi
-phi_on side other = None
+phi_on M (S, phi) = None
+phi_on S (M, phi) = None
 
 abbrev pub phis_on : Side → HBlock → List Inst
 phis_on side block = filter_map (phi_on side) block.phis
@@ -86,7 +81,8 @@ landed frame on_masters on_shadows n = record frame {
 
 abbrev pub landed_with : Frame → ℕ → Option (List (Loc × ℕ)) → Option (List (Loc × ℕ)) → Option Frame
 landed_with frame n (Some on_masters) (Some on_shadows) = Some (landed frame on_masters on_shadows n)
-landed_with frame n on_masters on_shadows = None
+landed_with frame n (Some on_masters) None = None
+landed_with frame n None on_shadows = None
 
 abbrev pub land : LayoutParts → Frame → Loc → ℕ → HBlock → Option Frame
 land l frame from n block = landed_with frame n (words_on l frame from block M) (words_on l frame from block S)
@@ -116,99 +112,33 @@ suspended dst frame = record frame { index = suc frame.index; waiting = dst }
 abbrev pub resumed : ℕ → Frame → Frame
 resumed n frame = record (given_to frame.waiting n frame) { waiting = None }
 
--- ---- local actions
-
--- where an `alloca` begins
-abbrev pub reserved : CallStack → ℕ
-reserved stack = round_up 16 stack.mark
-
-abbrev pub frame_count : CallStack → ℕ
-frame_count stack = suc (length stack.callers)
-
--- why a thread can't do an action, where it can't
-abbrev pub failure : HardParts → List Span → ℕ → CallStack → Action → Option Cause
-failure h places t stack (Reserve size) = unless (nat_le (reserved stack + size) (stack_start (suc t))) Stack
-failure h places t stack (Read place atomic) = unless_valid places place
-failure h places t stack (Write place n atomic) = unless_valid places place
-failure h places t stack (Update place update) = unless_valid places place
-failure h places t stack (Jump label) = unless (is_some (jumped h stack.frame label)) Unreachable
-failure h places t stack (Call n words) = unless (nat_lt (frame_count stack) frame_limit) Depth
-failure h places t stack (Fault cause) = Some cause
-failure h places t stack other = None
-
-abbrev pub in_frame : CallStack → Frame → Thread
-in_frame stack frame = Running (record stack { frame = frame })
-
--- a function returns: to its caller, with the stack as it found it, or from the thread's own
-abbrev pub returned : ℕ → ℕ → List Frame → Thread
-returned n mark [] = Exiting n
-returned n mark (caller ∷ callers) = Running (record { mark = mark; frame = resumed n caller; callers = callers })
-
--- the thread after a local action that found a word in memory
-abbrev pub thread_after : HardParts → Option (Side × Loc) → CallStack → Action → ℕ → Thread
-thread_after h dst stack (Assign n) old = in_frame stack (resulted dst n stack.frame)
-thread_after h dst stack (Reserve size) old =
-    Running (record stack { mark = reserved stack + size; frame = resulted dst (reserved stack) stack.frame })
-thread_after h dst stack (Read place atomic) old = in_frame stack (resulted dst old stack.frame)
-thread_after h dst stack (Update place update) old = in_frame stack (resulted dst (found update old) stack.frame)
-thread_after h dst stack (Jump label) old = in_frame stack (unwrap_or (jumped h stack.frame label) stack.frame)
-thread_after h dst stack (Call n words) old =
-    Running (record stack { frame = entry_frame h n words stack.mark; callers = suspended dst stack.frame ∷ stack.callers })
-thread_after h dst stack (Return n) old = returned n stack.frame.mark stack.callers
-thread_after h dst stack other old = in_frame stack (passed stack.frame)
-
--- ---- actions, with the answers of a step of the source
-
-abbrev pub with_thread : ProcessParts → ℕ → Thread → ProcessParts
-with_thread p t thread = record p { threads = slice_set p.threads t thread }
-
-abbrev pub went_unless : Option Cause → ProcessParts → ProcessParts → ProcessParts × Step
-went_unless None p next = (next, Went)
-went_unless (Some cause) p next = (p, Undefined cause)
-
-abbrev pub local_done : HardParts → ProcessParts → ℕ → Option (Side × Loc) → CallStack → Action → ProcessParts
-local_done h p t dst stack action =
-    record (with_thread p t (thread_after h dst stack action (word_read p.memory action))) { memory = memory_after action (word_read p.memory action) p.memory }
-
-abbrev pub local : HardParts → ProcessParts → ℕ → Option (Side × Loc) → CallStack → Action → ProcessParts × Step
-local h p t dst stack action = went_unless (failure h p.memory.places t stack action) p (local_done h p t dst stack action)
-
--- a call of an external is done, with this result
-abbrev pub call_done : ProcessParts → ℕ → Option (Side × Loc) → CallStack → ℕ → ProcessParts
-call_done p t dst stack n = with_thread p t (in_frame stack (resulted dst n stack.frame))
-
--- the world has answered
-abbrev pub replied : ProcessParts → ℕ → Option (Side × Loc) → CallStack → WorldParts → Reply → ProcessParts × Step
-replied p t dst stack world (Answers n) = (record (call_done p t dst stack n) { world = world }, Went)
-replied p t dst stack world MustWait = (p, Waits)
-replied p t dst stack world (Refuses cause) = (p, Undefined cause)
-
--- a thread is made, where there is room for one and its number has a place
-abbrev pub thread_added : HardParts → ProcessParts → ℕ → Option (Side × Loc) → CallStack → ℕ → ℕ → ℕ → ProcessParts
-thread_added h p t dst stack address n argument = record p {
-  memory = poke p.memory address 8 (length p.threads);
-  threads = (call_done p t dst stack 0).threads ++ new_thread h (length p.threads) n (argument ∷ []) ∷ [];
+-- the frames of a hardened module
+abbrev pub frames : HardParts → Frames Frame (Option (Side × Loc))
+frames h = record {
+  enter = entry_frame h;
+  result = resulted;
+  advance = passed;
+  jump = λ label frame. jumped h frame label;
+  suspend = suspended;
+  resume = resumed;
+  mark = λ frame. frame.mark;
 }
 
-abbrev pub created : HardParts → ProcessParts → ℕ → Option (Side × Loc) → CallStack → ℕ → ℕ → ℕ → Bool → Bool → ProcessParts × Step
-created h p t dst stack address n argument true true = (thread_added h p t dst stack address n argument, Went)
-created h p t dst stack address n argument true false = (p, Undefined Access)
-created h p t dst stack address n argument false valid = (call_done p t dst stack 11, Went)
+-- ---- the opening
 
--- a thread is waited for
-abbrev pub joined : ProcessParts → ℕ → Option (Side × Loc) → CallStack → Option Thread → ProcessParts × Step
-joined p t dst stack None = (p, Undefined JoinCause)
-joined p t dst stack (Some Ended) = (call_done p t dst stack 0, Went)
-joined p t dst stack (Some other) = (p, Waits)
+-- thread 0 stands at the entry of `main`
+abbrev pub opening : HardParts → List ℕ → State
+opening h arguments = record {
+  process = record {
+    memory = opening_memory (layout_of h.heads) h.heads.globals;
+    threads = new_thread (frames h) 0 (main_of h.heads) [] ∷ [];
+    world = opening_world arguments;
+  };
+  turns = [];
+  stop = None;
+}
 
--- what a thread's instruction asks for is done
-abbrev pub acted : HardParts → ProcessParts → ℕ → Option (Side × Loc) → CallStack → Action → ProcessParts × Step
-acted h p t dst stack (Ask request) = replied p t dst stack (asked_of request t p.world).0 (asked_of request t p.world).1
-acted h p t dst stack (Create address n argument) =
-    created h p t dst stack address n argument (nat_lt (length p.threads) thread_limit) (is_valid p.memory.places address 8)
-acted h p t dst stack (Join other) = joined p t dst stack (slice_get p.threads other)
-acted h p t dst stack (Exit code) = (p, EndsProgram (code % 2 ^ 32))
-acted h p t dst stack action = local h p t dst stack action
+-- ---- actions
 
 -- the action of an instruction on a side, and where its result goes
 abbrev pub action_on : HardParts → Side → Frame → Inst → Action
@@ -235,14 +165,15 @@ abbrev pub trapped : HardParts → State → ℕ → Frame → State
 trapped h s t frame = stopped s (Trap (record { 0 = t }) (place_text h frame))
 
 -- an action has come to this answer
-abbrev pub settled : HardParts → State → ℕ → Frame → Bool → ProcessParts × Step → State
+abbrev pub settled : HardParts → State → ℕ → Frame → Bool → ProcessParts Frame × Step → State
 settled h s t frame retires (process, Went) = retired retires t (record s { process = process })
 settled h s t frame retires (process, EndsProgram code) = retired retires t (stopped s (End code))
 settled h s t frame retires (process, Undefined cause) = trapped h s t frame
-settled h s t frame retires (process, other) = s
+settled h s t frame retires (process, Waits) = s
+settled h s t frame retires (process, Idle) = s
 
 -- a thread's frame becomes this one
-abbrev pub moved : State → ℕ → CallStack → Frame → State
+abbrev pub moved : State → ℕ → CallStack Frame → Frame → State
 moved s t stack frame = record s { process = with_thread s.process t (in_frame stack frame) }
 
 -- ---- checks and copies
@@ -253,33 +184,38 @@ is_active Always = true
 is_active Plain = true
 is_active Tx = false
 
-abbrev pub agreed : HardParts → State → ℕ → CallStack → Bool → State
+abbrev pub agreed : HardParts → State → ℕ → CallStack Frame → Bool → State
 agreed h s t stack true = moved s t stack (passed stack.frame)
 agreed h s t stack false = failed h s t stack.frame
 
-abbrev pub compared : HardParts → State → ℕ → CallStack → Option ℕ → Option ℕ → State
+abbrev pub compared : HardParts → State → ℕ → CallStack Frame → Option ℕ → Option ℕ → State
 compared h s t stack (Some a) (Some b) = agreed h s t stack (a == b)
-compared h s t stack a b = trapped h s t stack.frame
+compared h s t stack (Some a) None = trapped h s t stack.frame
+compared h s t stack None b = trapped h s t stack.frame
 
-abbrev pub checked : HardParts → State → ℕ → CallStack → Loc → Bool → State
+abbrev pub checked : HardParts → State → ℕ → CallStack Frame → Loc → Bool → State
 checked h s t stack reg true = compared h s t stack (get stack.frame.masters reg.0) (get stack.frame.shadows reg.0)
 checked h s t stack reg false = moved s t stack (passed stack.frame)
 
 -- the shadow of a register becomes its master
-abbrev pub copied : HardParts → State → ℕ → CallStack → Loc → Option ℕ → State
+abbrev pub copied : HardParts → State → ℕ → CallStack Frame → Loc → Option ℕ → State
 copied h s t stack reg (Some n) = moved s t stack (resulted (Some (S, reg)) n stack.frame)
 copied h s t stack reg None = trapped h s t stack.frame
 
 -- ---- turns
 
-abbrev pub stepped : HardParts → State → ℕ → CallStack → HInst → State
-stepped h s t stack (Do side inst retires) =
-    settled h s t stack.frame retires (acted h s.process t (destination_on side inst) stack (action_on h side stack.frame inst))
+abbrev pub stepped : HardParts → State → ℕ → CallStack Frame → HInst → State
+stepped h s t stack Cut = moved s t stack (passed stack.frame)
+stepped h s t stack Begin = moved s t stack (passed stack.frame)
+stepped h s t stack EndTransaction = moved s t stack (passed stack.frame)
+stepped h s t stack (Tick n) = moved s t stack (passed stack.frame)
 stepped h s t stack (Chk when ty reg) = checked h s t stack reg (is_active when)
+stepped h s t stack (ChkMem ty ptr val) = moved s t stack (passed stack.frame)
 stepped h s t stack (Mov ty reg) = copied h s t stack reg (get stack.frame.masters reg.0)
-stepped h s t stack other = moved s t stack (passed stack.frame)
+stepped h s t stack (Do side inst retires) =
+    settled h s t stack.frame retires (acted (frames h) s.process t (destination_on side inst) stack (action_on h side stack.frame inst))
 
-abbrev pub fetched : HardParts → State → ℕ → CallStack → Option HInst → State
+abbrev pub fetched : HardParts → State → ℕ → CallStack Frame → Option HInst → State
 fetched h s t stack None = trapped h s t stack.frame
 fetched h s t stack (Some inst) = stepped h s t stack inst
 
@@ -288,7 +224,7 @@ abbrev pub exited : State → ℕ → ℕ → State
 exited s zero n = retired true zero (stopped s (End (n % 2 ^ 32)))
 exited s (suc t) n = retired true (suc t) (record s { process = with_thread s.process (suc t) Ended })
 
-abbrev pub turned : HardParts → State → ℕ → Option Thread → State
+abbrev pub turned : HardParts → State → ℕ → Option (Thread Frame) → State
 turned h s t None = s
 turned h s t (Some Ended) = s
 turned h s t (Some (Exiting n)) = exited s t n

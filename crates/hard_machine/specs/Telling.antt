@@ -3,22 +3,27 @@ use Rattle.std.specs.Prelude.{ℕ, ◌-◌, Bool, true, false, List, [], length,
 use Rattle.ir_core.specs.declared.types.Loc.{Loc}
 use Rattle.ir_core.specs.declared.values.Side.{Side}
 use Rattle.inst_meaning.specs.declared.actions.Action.{Action}
-use Rattle.src_meaning.specs.declared.state.Step.{Step}
-use Rattle.src_meaning.specs.declared.state.Step.TheVariants.{Went, Ended as EndsProgram}
+use Rattle.process.specs.declared.state.Step.{Step}
+use Rattle.process.specs.declared.state.Step.TheVariants.{Went, Waits, Idle, Undefined, Ended as EndsProgram}
 use Rattle.hard_ir.specs.Hardened.{HardParts}
 use Rattle.hard_machine.specs.declared.outcome.Stop.{Stop}
-use Rattle.hard_machine.specs.declared.state.Thread.{Thread}
-use Rattle.hard_machine.specs.declared.state.Thread.TheVariants.{Running}
+use Rattle.process.specs.declared.state.Thread.{Thread}
+use Rattle.process.specs.declared.state.Thread.TheVariants.{Running, Exiting, Ended}
 use Rattle.hard_machine.specs.declared.machines.Flow.{Flow}
 use Rattle.hard_machine.specs.declared.machines.Flow.TheVariants.{Going, Stopped}
-use Rattle.hard_machine.specs.State.{ProcessParts, State}
+use Rattle.process.specs.State.{ProcessParts}
+use Rattle.process.specs.Process.{acted}
+use Rattle.hard_machine.specs.declared.state.Frame.{Frame}
+use Rattle.hard_machine.specs.State.{State}
 use Rattle.hard_machine.specs.Places.{place_text}
-use Rattle.hard_machine.specs.Step.{acted, retired, settled, turned}
+use Rattle.hard_machine.specs.Step.{frames, retired, settled, turned}
 
 -- where a thread stands
-abbrev pub place_of : HardParts → Option Thread → List ℕ
+abbrev pub place_of : HardParts → Option (Thread Frame) → List ℕ
 place_of h (Some (Running stack)) = place_text h stack.frame
-place_of h other = []
+place_of h (Some (Exiting n)) = []
+place_of h (Some Ended) = []
+place_of h None = []
 
 abbrev pub place_at : HardParts → State → ℕ → List ℕ
 place_at h s t = place_of h (slice_get s.process.threads t)
@@ -32,20 +37,24 @@ untold false s = s
 abbrev pub comes : Step → Bool
 comes Went = true
 comes (EndsProgram code) = true
-comes other = false
+comes Waits = false
+comes Idle = false
+comes (Undefined cause) = false
 
 -- an action was tried
 abbrev pub told_where : Bool → Bool → ℕ → State → State
 told_where true retires t s = retired retires t s
 told_where false retires t s = s
 
-abbrev pub attempted : Bool → ℕ → State → ProcessParts × Step → State
+abbrev pub attempted : Bool → ℕ → State → ProcessParts Frame × Step → State
 attempted retires t s outcome = told_where (comes outcome.1) retires t (record s { process = outcome.0 })
 
 -- a thread that runs has done an action
-abbrev pub carried_by : HardParts → State → ℕ → Bool → Option (Side × Loc) → Option Thread → Action → State
-carried_by h s t retires dst (Some (Running stack)) action = settled h s t stack.frame retires (acted h s.process t dst stack action)
-carried_by h s t retires dst other action = s
+abbrev pub carried_by : HardParts → State → ℕ → Bool → Option (Side × Loc) → Option (Thread Frame) → Action → State
+carried_by h s t retires dst (Some (Running stack)) action = settled h s t stack.frame retires (acted (frames h) s.process t dst stack action)
+carried_by h s t retires dst (Some (Exiting n)) action = s
+carried_by h s t retires dst (Some Ended) action = s
+carried_by h s t retires dst None action = s
 
 abbrev pub carried_at : HardParts → State → ℕ → Bool → Option (Side × Loc) → Action → State
 carried_at h s t retires dst action = carried_by h s t retires dst (slice_get s.process.threads t) action

@@ -8,20 +8,17 @@
 //! are found by a table, and no turn copies memory or frames.
 #![tactic(auto)]
 
-mod callers;
+mod frames;
 mod labels;
 mod machines;
-mod moves;
 mod orders;
 mod outcome;
 mod places;
-mod processes;
 mod programs;
 mod shadows;
 mod state;
 
-pub use callers::Callers;
 pub use machines::{Flow, Machine};
 pub use outcome::{Aborts, RunResult, Stop};
 pub use shadows::Shadows;
-pub use state::{CallStack, Frame, Thread};
+pub use state::Frame;

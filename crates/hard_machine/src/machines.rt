@@ -3,22 +3,21 @@ ghost use Rattle.std.specs.Prelude.{◌≡◌, ◌+◌, ◌<◌, ◌^◌, true, 
 ghost use Rattle.inst_meaning.specs.Accesses.{IsFitting};
 ghost use Rattle.sched_file.specs.Shown.{shown};
 ghost use Rattle.hard_machine.specs.declared.outcome.Stop.TheVariants.{End, Fail, Trap};
-ghost use Rattle.hard_machine.specs.State.{opening};
-ghost use Rattle.hard_machine.specs.Step.{retired, stopped, exited, turn_of};
+ghost use Rattle.process.specs.code.Threads.{CanPassAt, acted_at, runs};
+ghost use Rattle.hard_machine.specs.Step.{frames, opening, retired, stopped, exited, turn_of};
 ghost use Rattle.hard_machine.specs.Runs.{happened, result_of, is_no_upset};
-ghost use Rattle.hard_machine.specs.Asking.{CanPassAt, acted_at, runs};
 ghost use Rattle.hard_machine.specs.Telling.{place_at, comes, untold, attempted, carried_at, turned_at, flow_of};
 
+use crate::frames::Words;
 use crate::orders::Order;
 use crate::places::place_text;
-use crate::processes::Process;
 use crate::programs::Program;
-use crate::{Aborts, RunResult, Stop, Thread};
+use crate::{Aborts, Frame, RunResult, Stop};
 use hard_ir::Hardened;
 use inst_meaning::Action;
 use ir_core::{Loc, Name, Side, Tid};
+use process::{Process, Step, Thread};
 use sched_file::Event;
-use src_meaning::Step;
 use std::alloc::{AllocError, Global};
 use std::marker::Model;
 use turn_runs::TurnLog;
@@ -27,7 +26,7 @@ use turn_runs::TurnLog;
 #[derive(Drop)]
 pub struct Machine<'a> {
     program: Program<'a>,
-    process: Process,
+    process: Process<Frame, Words>,
     turns: TurnLog,
     stop: Option<Stop>,
     alloc: Global,
@@ -69,7 +68,14 @@ impl<'a> Machine<'a> {
         ensures { IfOk result (λ machine. machine ≡ record { program = h.now; state = opening h.now args.now }) }
     {
         let program = Program::new(alloc, h)?;
-        let process = Process::new(alloc, &program, args)?;
+        let image = program.image(alloc)?;
+        let words = Words {
+            one: Vec::new(alloc),
+            masters: Vec::new(alloc),
+            shadows: Vec::new(alloc),
+        };
+        let main = program.main();
+        let process = Process::new(alloc, &program, image, words, main, args)?;
         Ok(Machine {
             program,
             process,
@@ -147,13 +153,13 @@ impl<'a> Machine<'a> {
         retires: bool,
         action: &Action,
     ) -> Result<Step, AllocError>
-        requires pass { CanPassAt (slice_get self.old.state.process.threads t.0) }
+        requires pass { CanPassAt (λ frame. frame.index + 1 < 2 ^ 64) (slice_get self.old.state.process.threads t.0) }
         requires runs { runs (slice_get self.old.state.process.threads t.0) ≡ true }
         requires fits { IsFitting action.now }
         requires few { length self.old.state.turns + 1 < 2 ^ 64 }
-        ensures answer { IfOk result (λ answer. answer ≡ (acted_at self.old.program self.old.state.process t.0 dst action.now).1) }
+        ensures answer { IfOk result (λ answer. answer ≡ (acted_at (frames self.old.program) self.old.state.process t.0 dst action.now).1) }
         ensures state { OnOk result (self.new
-            ≡ record self.old { state = attempted retires t.0 self.old.state (acted_at self.old.program self.old.state.process t.0 dst action.now) }) }
+            ≡ record self.old { state = attempted retires t.0 self.old.state (acted_at (frames self.old.program) self.old.state.process t.0 dst action.now) }) }
         ensures err { OnErr result (self.new ≡ self.old) }
     {
         self.tell(t, retires)?;
@@ -179,7 +185,7 @@ impl<'a> Machine<'a> {
         retires: bool,
         action: &Action,
     ) -> Result<(), AllocError>
-        requires pass { CanPassAt (slice_get self.old.state.process.threads t.0) }
+        requires pass { CanPassAt (λ frame. frame.index + 1 < 2 ^ 64) (slice_get self.old.state.process.threads t.0) }
         requires runs { runs (slice_get self.old.state.process.threads t.0) ≡ true }
         requires fits { IsFitting action.now }
         requires few { length self.old.state.turns + 1 < 2 ^ 64 }

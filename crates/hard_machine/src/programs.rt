@@ -9,14 +9,14 @@ ghost use Rattle.inst_meaning.specs.Action.{callees_of};
 ghost use Rattle.inst_meaning.specs.Phis.{all_assigned, phi_words};
 ghost use Rattle.mem_image.specs.Opening.{opening};
 ghost use Rattle.src_meaning.specs.State.{main_of};
-ghost use Rattle.hard_machine.specs.State.{blocks_at, inst_at, entry_frame, new_thread};
+ghost use Rattle.hard_machine.specs.State.{blocks_at, inst_at, entry_frame};
 ghost use Rattle.hard_machine.specs.Step.{jumped, landed, phis_on};
 ghost use Rattle.hard_machine.specs.Landing.{order_of, ordered, IsFittingOrder};
 
+use crate::frames::Words;
 use crate::labels::Labels;
-use crate::moves::{Words, stack_start};
 use crate::orders::{Order, destination_on, is_active};
-use crate::{CallStack, Callers, Frame, Shadows, Thread};
+use crate::{Frame, Shadows};
 use hard_ir::{HBlock, HInst, Hardened};
 use inst_meaning::{Callee, Operands, Registers, callees_of};
 use ir_core::{Func, Loc, Module, Side, Sym, Ty, Width};
@@ -157,12 +157,14 @@ impl<'a> Program<'a> {
             }
             HInst::Chk { when, reg, .. } => Order::checking(frame, *reg, is_active(*when)),
             HInst::Mov { reg, .. } => Ok(Order::copying(frame, *reg)),
-            _ => Ok(Order::passing()),
+            HInst::Cut | HInst::Begin | HInst::End | HInst::Tick(_) | HInst::ChkMem { .. } => Ok(
+                Order::passing(),
+            ),
         }
     }
 
     /// A function is entered with these words.
-    pub(crate) fn enter(
+    pub(crate) fn entered(
         &self,
         alloc: Global,
         function: usize,
@@ -274,27 +276,8 @@ impl<'a> Program<'a> {
         let m = self.heads();
         m.funcs().iter().position(|f| is_main(m, f)).unwrap_or(0)
     }
-
-    /// A new thread in a function.
-    pub(crate) fn start(
-        &self,
-        alloc: Global,
-        t: u32,
-        function: usize,
-        words: &[u64],
-    ) -> Result<Thread, AllocError>
-        requires { t < 64 }
-        ensures { IfOk result (λ thread. thread ≡ new_thread self.now t function words.now) }
-    {
-        let mark = stack_start(t);
-        let frame = self.enter(alloc, function, words, mark)?;
-        Ok(Thread::Running(CallStack {
-            mark,
-            frame,
-            callers: Callers::new(alloc),
-        }))
-    }
 }
+
 // The parameters take the words, one after another.
 fn assign_params(
     registers: &mut Registers,

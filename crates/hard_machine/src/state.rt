@@ -1,12 +1,12 @@
-//! Threads and frames.
+//! Frames.
 ghost use Rattle.std.specs.Prelude.{◌≡◌, OnOk, OnErr, IfOk};
 ghost use Rattle.inst_meaning.specs.Accesses.{IsFitting};
 ghost use Rattle.inst_meaning.specs.World.{asked_of};
-ghost use Rattle.hard_machine.specs.Step.{given_to, action_on};
-ghost use Rattle.hard_machine.specs.Frames.{answered};
+ghost use Rattle.hard_machine.specs.Step.{given_to, landed, action_on};
+ghost use Rattle.hard_machine.specs.Landing.{answered};
 
+use crate::Shadows;
 use crate::programs::Program;
-use crate::{Callers, Shadows};
 use inst_meaning::{Action, Registers, Reply, Request, World};
 use ir_core::{Inst, Loc, Side, Tid};
 use std::alloc::{AllocError, Global};
@@ -24,25 +24,6 @@ pub struct Frame {
     pub waiting: Option<(Side, Loc)>,
 }
 
-/// How far a thread's stack region is taken, the frame that runs, and those that wait for it, the last first.
-#[derive(Drop)]
-pub struct CallStack {
-    pub mark: u64,
-    pub frame: Frame,
-    pub callers: Callers,
-}
-
-/// A thread that was made.
-#[derive(Drop)]
-pub enum Thread {
-    /// It runs.
-    Running(CallStack),
-    /// Its function returned this word, and it ends at its next turn.
-    Exiting(u64),
-    /// It has ended.
-    Ended,
-}
-
 impl Frame {
     /// A word goes to a register of a side, where there is one for it. For want of memory nothing changes.
     pub(crate) fn give(&mut self, dst: Option<(Side, Loc)>, word: u128) -> Result<(), AllocError>
@@ -54,6 +35,23 @@ impl Frame {
             Some((Side::S, at)) => self.shadows.assign(Some(at), word),
             None => Ok(()),
         }
+    }
+
+    /// It stands at the list of a block, and words go to both sides. For want of memory nothing changes. What `on_shadows` becomes isn't said.
+    pub(crate) fn land(
+        &mut self,
+        block: usize,
+        on_masters: &[(Loc, u64)],
+        on_shadows: &mut Vec<(Loc, u64)>,
+    ) -> Result<(), AllocError>
+        ensures ok { OnOk result (self.new ≡ landed self.old on_masters.now on_shadows.old.items block) }
+        ensures err { OnErr result (self.new ≡ self.old) }
+    {
+        self.shadows
+            .land(&mut self.masters, on_masters, on_shadows)?;
+        self.block = block;
+        self.index = 0;
+        Ok(())
     }
 
     /// What an instruction asks for on a side.

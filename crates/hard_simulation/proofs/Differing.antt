@@ -4,7 +4,7 @@ use Rattle.mem_image.specs.Bytes.{Memory}
 use Rattle.inst_meaning.specs.World.{opening_world}
 use Rattle.op_table.specs.Operators.{binary}
 use Rattle.hard_machine.specs.declared.outcome.Stop.TheVariants.{Fail}
-use Rattle.hard_machine.specs.declared.state.Thread.TheVariants.{Running}
+use Rattle.process.specs.declared.state.Thread.TheVariants.{Running}
 use Rattle.hard_machine.specs.State.{State}
 use Rattle.hard_machine.specs.Step.{turn_of}
 use Rattle.hard_simulation.specs.Samples.{differing, entered}

@@ -20,7 +20,7 @@ use Rattle.inst_laws.specs.Agreement.{Agree}
 use Rattle.src_meaning.specs.declared.state.Frame.{Frame as SourceFrame}
 use Rattle.src_meaning.specs.State as source_state
 use Rattle.src_meaning.specs.Step as source
-use Rattle.src_laws.proofs.Members.{IsIn, any-in}
+use Rattle.ir_check.proofs.Members.{IsIn, any-in}
 use Rattle.src_laws.proofs.Labels.{is-edge}
 use Rattle.src_laws.proofs.Ends.{terminator-last}
 use Rattle.src_laws.proofs.Accepted.{block-ends}

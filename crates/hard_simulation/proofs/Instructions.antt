@@ -27,7 +27,7 @@ use Rattle.ir_core.specs.Instructions.{is_phi}
 use Rattle.inst_meaning.specs.Action.{on_word, on_width, operated, inner_pointer, creating, asking, outside, calling, action_of, destination}
 use Rattle.inst_laws.specs.Agreement.{Agree, IsDefined}
 use Rattle.inst_laws.proofs.Flags.{action-plain}
-use Rattle.src_laws.proofs.Members.{IsIn, in-front, in-back, in-flat}
+use Rattle.ir_check.proofs.Members.{IsIn, in-front, in-back, in-flat}
 use Rattle.hard_ir.specs.declared.instruction.HInst.TheVariants.{Do}
 use Rattle.hard_ir.specs.Image.{unflagged, is_doubled, single_result, copies, flow, checked}
 

@@ -6,58 +6,57 @@
 use Rattle.std.proofs.Common.{ℕ, ◌≡◌, ◌∙◌, true, false, List, [], ◌∷◌, ◌++◌, Some, None, slice_get, slice_set, refl, ap, sym, subst}
 use Rattle.ir_core.specs.Module.{ModuleParts}
 use Rattle.inst_meaning.specs.declared.actions.Cause.{Cause}
-use Rattle.src_meaning.specs.declared.state.CallStack.{CallStack as SourceStack}
-use Rattle.src_meaning.specs.declared.state.Thread.TheVariants as source_threads
-use Rattle.src_meaning.specs.declared.state.Step.{Step}
-use Rattle.src_meaning.specs.declared.state.Step.TheVariants.{Went, Undefined, Ended as EndsProgram}
+use Rattle.process.specs.declared.state.Step.{Step}
+use Rattle.process.specs.declared.state.Step.TheVariants.{Went, Undefined, Ended as EndsProgram}
 use Rattle.src_meaning.specs.State.{State as SourceState}
 use Rattle.src_meaning.specs.Step.{step}
 use Rattle.src_meaning.specs.Runs.{source}
 use Rattle.hard_ir.specs.Hardened.{HardParts}
 use Rattle.hard_machine.specs.declared.outcome.Stop.TheVariants.{End}
 use Rattle.hard_machine.specs.declared.state.Frame.{Frame}
-use Rattle.hard_machine.specs.declared.state.CallStack.{CallStack}
-use Rattle.hard_machine.specs.declared.state.Thread.{Thread}
-use Rattle.hard_machine.specs.declared.state.Thread.TheVariants.{Running}
+use Rattle.process.specs.declared.state.CallStack.{CallStack}
+use Rattle.process.specs.declared.state.Thread.{Thread}
+use Rattle.process.specs.declared.state.Thread.TheVariants.{Running}
 use Rattle.hard_machine.specs.State.{State}
 use Rattle.hard_machine.specs.Step.{retired, stopped, failed, trapped, moved}
 use Rattle.hard_simulation.specs.Meaning.{AllWent, code_of, IsUndefinedOn}
 use Rattle.hard_simulation.proofs.Sides.{Sides, IsHurt}
-use Rattle.hard_simulation.proofs.Points.{IsFrame, IsStack, AreThreads}
-use Rattle.hard_simulation.proofs.Threads.{hard-moved}
+use Rattle.process_laws.proofs.Likeness.{other-moved}
+use Rattle.src_meaning.specs.declared.state.Frame.{Frame as SourceFrame}
+use Rattle.hard_simulation.proofs.Points.{IsFrame, alike, IsStack, AreThreads}
 use Rattle.hard_simulation.proofs.Turns.{state-more, answers-more, went-more, ended-more, code-went, code-ended, undefined-now, undefined-more}
 
 -- the machine that stands for a source state, with these threads, after these turns
-abbrev pub machine_of : SourceState → List Thread → List ℕ → State
-machine_of s threads turns = record { process = record { memory = s.memory; threads = threads; world = s.world }; turns = turns; stop = None }
+abbrev pub machine_of : SourceState → List (Thread Frame) → List ℕ → State
+machine_of s threads turns = record { process = record { memory = s.process.memory; threads = threads; world = s.process.world }; turns = turns; stop = None }
 
 -- the source has come there by these turns, and its threads are those of the machine
-pub record Facts (m : ModuleParts) (h : HardParts) (arguments : List ℕ) (s : SourceState) (threads : List Thread) (turns : List ℕ) : Type 0 where
+pub record Facts (m : ModuleParts) (h : HardParts) (arguments : List ℕ) (s : SourceState) (threads : List (Thread Frame)) (turns : List ℕ) : Type 0 where
   pub state : (source m arguments turns).state ≡ s
   pub went : AllWent (source m arguments turns).answers
   pub unended : code_of (source m arguments turns).answers ≡ None
   pub going : s.ended ≡ false
-  pub each : AreThreads m h s.threads threads
+  pub each : AreThreads m h s.process.threads threads
 
 -- what holds of a machine: it runs and stands for the source; the program has ended in both; or the source is undefined on its turns
 pub data Holds (m : ModuleParts) (h : HardParts) (arguments : List ℕ) (now : State) : Type 0 where
-  Runs : (s : SourceState) (threads : List Thread) (turns : List ℕ) → now ≡ machine_of s threads turns → Facts m h arguments s threads turns
+  Runs : (s : SourceState) (threads : List (Thread Frame)) (turns : List ℕ) → now ≡ machine_of s threads turns → Facts m h arguments s threads turns
       → Holds m h arguments now
   Over : (code : ℕ) → now.stop ≡ Some (End code) → AllWent (source m arguments now.turns).answers
       → code_of (source m arguments now.turns).answers ≡ Some code
-      → now.process.world.outputs ≡ (source m arguments now.turns).state.world.outputs → Holds m h arguments now
+      → now.process.world.outputs ≡ (source m arguments now.turns).state.process.world.outputs → Holds m h arguments now
   NotDefined : IsUndefinedOn m arguments now.turns → Holds m h arguments now
 
-module _ (m : ModuleParts) (h : HardParts) (arguments : List ℕ) (s : SourceState) (threads : List Thread) (turns : List ℕ)
+module _ (m : ModuleParts) (h : HardParts) (arguments : List ℕ) (s : SourceState) (threads : List (Thread Frame)) (turns : List ℕ)
     (facts : Facts m h arguments s threads turns) (t : ℕ) where
   -- nothing has happened
   pub waits : Holds m h arguments (machine_of s threads turns)
   waits = Runs s threads turns refl facts
 
   -- a step of the source has become a turn
-  pub retires : (next : SourceState) (others : List Thread) → step m s t ≡ (next, Went) → next.ended ≡ false → AreThreads m h next.threads others
+  pub retires : (next : SourceState) (others : List (Thread Frame)) → step m s t ≡ (next, Went) → next.ended ≡ false → AreThreads m h next.process.threads others
       → Holds m h arguments (retired true t (record (machine_of s threads turns)
-      { process = record { memory = next.memory; threads = others; world = next.world } }))
+      { process = record { memory = next.process.memory; threads = others; world = next.process.world } }))
   retires next others e going all = Runs next others (turns ++ t ∷ []) refl (record {
     state = state-more m arguments turns t ∙ ap (λ (now : SourceState). (step m now t).0) facts.state ∙ ap (λ (p : SourceState × Step). p.0) e;
     went = subst (λ (answers : List Step). AllWent answers) (sym (answers-are Went (ap (λ (p : SourceState × Step). p.1) e)))
@@ -74,13 +73,13 @@ module _ (m : ModuleParts) (h : HardParts) (arguments : List ℕ) (s : SourceSta
           ∙ ap (λ (last : Step). (source m arguments turns).answers ++ last ∷ []) (ap (λ (now : SourceState). (step m now t).1) facts.state ∙ f)
 
   -- the source has ended, and so does the machine
-  pub ends : (next : SourceState) (code : ℕ) → step m s t ≡ (next, EndsProgram code) → next.world ≡ s.world
+  pub ends : (next : SourceState) (code : ℕ) → step m s t ≡ (next, EndsProgram code) → next.process.world ≡ s.process.world
       → Holds m h arguments (retired true t (stopped (machine_of s threads turns) (End code)))
   ends next code e world = Over code refl
       (subst (λ (answers : List Step). AllWent answers) (sym answers-are)
       (ended-more (source m arguments turns).answers code facts.went facts.unended))
       (ap code_of answers-are ∙ code-ended (source m arguments turns).answers code facts.went facts.unended)
-      (sym (ap (λ (now : SourceState). now.world.outputs)
+      (sym (ap (λ (now : SourceState). now.process.world.outputs)
       (state-more m arguments turns t ∙ ap (λ (now : SourceState). (step m now t).0) facts.state ∙ ap (λ (p : SourceState × Step). p.0) e)
       ∙ ap (λ w. w.outputs) world))
     where
@@ -96,8 +95,8 @@ module _ (m : ModuleParts) (h : HardParts) (arguments : List ℕ) (s : SourceSta
       (ap (λ (at : SourceState). (step m at t).1) facts.state ∙ e) in
       NotDefined (subst (λ (list : List ℕ). IsUndefinedOn m arguments list) (sym grown) (undefined-more m arguments turns more here))
 
-  module _ (a : SourceStack) (b : CallStack) (sides : Sides) (unhurt : IsHurt sides → ⊥) (stack : IsStack m h sides a b)
-      (at : slice_get s.threads t ≡ Some (source_threads.Running a)) (hard_at : slice_get threads t ≡ Some (Running b)) where
+  module _ (a : CallStack SourceFrame) (b : CallStack Frame) (sides : Sides) (unhurt : IsHurt sides → ⊥) (stack : IsStack m h sides a b)
+      (at : slice_get s.process.threads t ≡ Some (Running a)) (hard_at : slice_get threads t ≡ Some (Running b)) where
     -- the thread has gone on by itself
     pub silent : (frame : Frame) → IsFrame m h sides a.frame frame → Holds m h arguments (moved (machine_of s threads turns) t b frame)
     silent frame is = Runs s (slice_set threads t (Running (record b { frame = frame }))) turns refl (record {
@@ -105,9 +104,9 @@ module _ (m : ModuleParts) (h : HardParts) (arguments : List ℕ) (s : SourceSta
       went = facts.went;
       unended = facts.unended;
       going = facts.going;
-      each = hard-moved m h s.threads threads facts.each t (source_threads.Running a) (source_threads.Running a) (Running b)
+      each = other-moved (alike m h) s.process.threads threads facts.each t (Running a) (Running a) (Running b)
           (Running (record b { frame = frame })) at hard_at
-          (record { sides = sides; unhurt = unhurt; stands = record { mark = stack.mark; frame = is; callers = stack.callers } });
+          (record { index = sides; good = unhurt; stands = record { mark = stack.mark; frame = is; callers = stack.callers } });
     })
 
     -- a check fails, or an action is undefined, only where a side is hurt

@@ -6,7 +6,6 @@ pub mod Headed
 pub mod Hardening
 pub mod Landing
 pub mod Points
-pub mod Threads
 pub mod Turns
 pub mod Kept
 pub mod Entries

@@ -2,7 +2,7 @@
 --
 -- One constructor for each point, with equations as fields. Nothing speaks of an instruction's kind: an instruction is done on each side,
 -- or once. What was checked since a point began is known whichever side is hurt.
-use Rattle.std.proofs.Common.{ℕ, ◌≡◌, true, List, [], ◌∷◌, ◌++◌, drop, length, Option, Some, None, slice_get}
+use Rattle.std.proofs.Common.{ℕ, ◌≡◌, true, List, [], ◌∷◌, ◌++◌, drop, Option, Some}
 use Rattle.std.specs.Option.{option_map}
 use Rattle.ir_core.specs.declared.types.Ty.{Ty}
 use Rattle.ir_core.specs.declared.types.Loc.{Loc}
@@ -16,18 +16,16 @@ use Rattle.inst_meaning.specs.declared.actions.Action.TheVariants.{Assign}
 use Rattle.inst_meaning.specs.Action.{action_of, callees_of, destination}
 use Rattle.inst_laws.specs.Agreement.{Agree}
 use Rattle.src_meaning.specs.declared.state.Frame.{Frame as SourceFrame}
-use Rattle.src_meaning.specs.declared.state.CallStack.{CallStack as SourceStack}
-use Rattle.src_meaning.specs.declared.state.Thread.{Thread as SourceThread}
-use Rattle.src_meaning.specs.declared.state.Thread.TheVariants as source_threads
 use Rattle.src_meaning.specs.State.{blocks_at as source_blocks, code_at}
 use Rattle.hard_ir.specs.declared.instruction.HInst.{HInst}
 use Rattle.hard_ir.specs.declared.instruction.HInst.TheVariants.{Do, Begin}
 use Rattle.hard_ir.specs.Image.{is_doubled, unflagged, checked, flow, copies}
 use Rattle.hard_ir.specs.Hardened.{HardParts}
 use Rattle.hard_machine.specs.declared.state.Frame.{Frame}
-use Rattle.hard_machine.specs.declared.state.CallStack.{CallStack}
-use Rattle.hard_machine.specs.declared.state.Thread.{Thread}
-use Rattle.hard_machine.specs.declared.state.Thread.TheVariants.{Running, Exiting, Ended}
+use Rattle.process.specs.declared.state.CallStack.{CallStack}
+use Rattle.process.specs.declared.state.Thread.{Thread}
+use Rattle.process_laws.proofs.Likeness as likeness
+use Rattle.process_laws.proofs.Likeness.{Likeness}
 use Rattle.hard_machine.specs.State.{blocks_at, list_at}
 use Rattle.hard_simulation.specs.Image.{Image, ticks_onto, checks_onto, copies_onto}
 use Rattle.hard_simulation.proofs.Sides.{Sides, On, IsHurt}
@@ -88,35 +86,25 @@ pub record IsCaller (m : ModuleParts) (h : HardParts) (sides : Sides) (a : Sourc
   pub masters : On sides M (Agree b.masters a.registers)
   pub shadows : On sides S (Agree b.shadows a.registers)
 
-abbrev pub AreCallers : ModuleParts → HardParts → Sides → List SourceFrame → List Frame → Type 0
-AreCallers m h sides [] [] = Unit {0}
-AreCallers m h sides [] (b ∷ hards) = ⊥
-AreCallers m h sides (a ∷ sources) [] = ⊥
-AreCallers m h sides (a ∷ sources) (b ∷ hards) = IsCaller m h sides a b × AreCallers m h sides sources hards
+-- a hardened frame stands for a source frame, as far as these sides tell; as long as no upset strikes, both are known
+abbrev pub alike : ModuleParts → HardParts → Likeness SourceFrame Frame Sides
+alike m h = record {
+  runs = λ sides a b. IsFrame m h sides a b;
+  waits = λ sides a b. IsCaller m h sides a b;
+  good = λ sides. IsHurt sides → ⊥;
+}
 
-pub record IsStack (m : ModuleParts) (h : HardParts) (sides : Sides) (a : SourceStack) (b : CallStack) : Type 0 where
-  pub mark : b.mark ≡ a.mark
-  pub frame : IsFrame m h sides a.frame b.frame
-  pub callers : AreCallers m h sides a.callers b.callers
+abbrev pub IsStack : ModuleParts → HardParts → Sides → CallStack SourceFrame → CallStack Frame → Type 0
+IsStack m h sides a b = likeness.IsStack (alike m h) sides a b
 
--- a hardened thread stands for a source thread, as far as these sides tell
-abbrev pub IsThreadOn : ModuleParts → HardParts → Sides → SourceThread → Thread → Type 0
-IsThreadOn m h sides (source_threads.Running a) (Running b) = IsStack m h sides a b
-IsThreadOn m h sides (source_threads.Exiting n) (Exiting k) = k ≡ n
-IsThreadOn m h sides source_threads.Ended Ended = Unit {0}
-IsThreadOn m h sides a b = ⊥
+abbrev pub IsThreadOn : ModuleParts → HardParts → Sides → Thread SourceFrame → Thread Frame → Type 0
+IsThreadOn m h sides a b = likeness.IsThreadOn (alike m h) sides a b
 
--- both sides are known, as long as no upset strikes
-pub record IsThread (m : ModuleParts) (h : HardParts) (a : SourceThread) (b : Thread) : Type 0 where
-  pub sides : Sides
-  pub unhurt : IsHurt sides → ⊥
-  pub stands : IsThreadOn m h sides a b
+abbrev pub IsThread : ModuleParts → HardParts → Thread SourceFrame → Thread Frame → Type 0
+IsThread m h a b = likeness.IsThread (alike m h) a b
 
-abbrev pub AreThreadsAt : ModuleParts → HardParts → Option SourceThread → Option Thread → Type 0
-AreThreadsAt m h None None = Unit {0}
-AreThreadsAt m h (Some a) (Some b) = IsThread m h a b
-AreThreadsAt m h a b = ⊥
+abbrev pub AreThreadsAt : ModuleParts → HardParts → Option (Thread SourceFrame) → Option (Thread Frame) → Type 0
+AreThreadsAt m h a b = likeness.AreThreadsAt (alike m h) a b
 
-pub record AreThreads (m : ModuleParts) (h : HardParts) (xs : List SourceThread) (ys : List Thread) : Type 0 where
-  pub count : length ys ≡ length xs
-  pub each : (t : ℕ) → AreThreadsAt m h (slice_get xs t) (slice_get ys t)
+abbrev pub AreThreads : ModuleParts → HardParts → List (Thread SourceFrame) → List (Thread Frame) → Type 0
+AreThreads m h xs ys = likeness.AreThreads (alike m h) xs ys

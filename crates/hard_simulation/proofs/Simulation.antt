@@ -8,10 +8,12 @@ use Rattle.inst_meaning.specs.declared.actions.Cause.{Cause}
 use Rattle.sched_file.specs.Events.{Happening, TurnOf, AbortOf, UpsetBy}
 use Rattle.turn_runs.specs.Runs.{turns_of}
 use Rattle.turn_runs.proofs.Grouping.{turns_of-grouped}
-use Rattle.src_meaning.specs.declared.state.Thread.{Thread as SourceThread}
-use Rattle.src_meaning.specs.declared.state.Thread.TheVariants as source_threads
-use Rattle.src_meaning.specs.declared.state.Step.{Step}
-use Rattle.src_meaning.specs.declared.state.Step.TheVariants.{Went, Waits, Idle, Undefined, Ended as EndsProgram}
+use Rattle.process.specs.declared.state.Step.{Step}
+use Rattle.process.specs.declared.state.Step.TheVariants.{Went, Waits, Idle, Undefined, Ended as EndsProgram}
+use Rattle.process.specs.State.{stack_start, new_thread}
+use Rattle.process.specs.Process.{with_thread}
+use Rattle.process_laws.proofs.Likeness.{both-moved}
+use Rattle.src_meaning.specs.declared.state.Frame.{Frame as SourceFrame}
 use Rattle.src_meaning.specs.State as source_state
 use Rattle.src_meaning.specs.State.{State as SourceState}
 use Rattle.src_meaning.specs.Step as source
@@ -21,9 +23,9 @@ use Rattle.src_laws.proofs.Moves.{main-enters}
 use Rattle.hard_ir.specs.Hardened.{HardParts}
 use Rattle.hard_machine.specs.declared.outcome.Stop.TheVariants.{End, Bound}
 use Rattle.hard_machine.specs.declared.outcome.RunResult.{RunResult}
-use Rattle.hard_machine.specs.declared.state.Thread.{Thread}
-use Rattle.hard_machine.specs.declared.state.Thread.TheVariants.{Running, Exiting, Ended}
-use Rattle.hard_machine.specs.State as hard_state
+use Rattle.process.specs.declared.state.Thread.{Thread}
+use Rattle.process.specs.declared.state.Thread.TheVariants.{Running, Exiting, Ended}
+use Rattle.hard_machine.specs.declared.state.Frame.{Frame}
 use Rattle.hard_machine.specs.State.{State}
 use Rattle.hard_machine.specs.Step as hard
 use Rattle.hard_machine.specs.Runs.{happened, run_from, result_of, run_on, is_no_upset}
@@ -31,8 +33,7 @@ use Rattle.hard_simulation.specs.Image.{IsImage}
 use Rattle.hard_simulation.specs.Meaning.{IsUpsetFree, AllWent, code_of, IsFailure, Means, IsUndefinedOn, Told, Meant, NotDefined as SourceUndefined}
 use Rattle.hard_simulation.proofs.Sides.{Sides, Both, IsHurt}
 use Rattle.hard_simulation.proofs.Headed.{heads-layout, heads-main}
-use Rattle.hard_simulation.proofs.Points.{IsThreadOn, AreThreadsAt}
-use Rattle.hard_simulation.proofs.Threads.{both-moved}
+use Rattle.hard_simulation.proofs.Points.{alike, IsThreadOn, AreThreadsAt}
 use Rattle.hard_simulation.proofs.Entries.{entered-frame}
 use Rattle.hard_simulation.proofs.Kept.{machine_of, Facts, Holds, Runs, Over, NotDefined, waits, retires, ends, not-defined}
 use Rattle.hard_simulation.proofs.Steps.{turn-at}
@@ -41,51 +42,51 @@ use Rattle.hard_simulation.proofs.Turns.{turns-grow, undefined-more, never-undef
 module _ (m : ModuleParts) (h : HardParts) (image : IsImage m h) (accepted : IsAccepted m) (arguments : List ℕ) where
   -- ---- one turn
 
-  module _ (s : SourceState) (threads : List Thread) (turns : List ℕ) (facts : Facts m h arguments s threads turns) where
+  module _ (s : SourceState) (threads : List (Thread Frame)) (turns : List ℕ) (facts : Facts m h arguments s threads turns) where
     abbrev now : State
     now = machine_of s threads turns
 
     -- a thread ends
-    exits : (t n : ℕ) → slice_get s.threads t ≡ Some (source_threads.Exiting n) → slice_get threads t ≡ Some (Exiting n)
+    exits : (t n : ℕ) → slice_get s.process.threads t ≡ Some (Exiting n) → slice_get threads t ≡ Some (Exiting n)
         → Holds m h arguments (hard.exited now t n)
     exits zero n at hard_at = ends m h arguments s threads turns facts zero (record s { ended = true }) (n % 2 ^ 32) (rw (facts.going, at) refl) refl
-    exits (suc t) n at hard_at = retires m h arguments s threads turns facts (suc t) (source.with_thread s (suc t) source_threads.Ended)
+    exits (suc t) n at hard_at = retires m h arguments s threads turns facts (suc t) (record s { process = with_thread s.process (suc t) Ended })
         (slice_set threads (suc t) Ended) (rw (facts.going, at) refl) facts.going
-        (both-moved m h s.threads threads facts.each (suc t) (source_threads.Exiting n) source_threads.Ended (Exiting n) Ended at hard_at
-        (record { sides = Both; unhurt = λ hurt. hurt; stands = tt }))
+        (both-moved (alike m h) s.process.threads threads facts.each (suc t) (Exiting n) Ended (Exiting n) Ended at hard_at
+        (record { index = Both; good = λ hurt. hurt; stands = tt }))
 
-    by-stands : (t : ℕ) (x : SourceThread) (y : Thread) (sides : Sides) → (IsHurt sides → ⊥) → slice_get s.threads t ≡ Some x
+    by-stands : (t : ℕ) (x : Thread SourceFrame) (y : Thread Frame) (sides : Sides) → (IsHurt sides → ⊥) → slice_get s.process.threads t ≡ Some x
         → slice_get threads t ≡ Some y → IsThreadOn m h sides x y
         → ((cause : Cause) → (source.step m s t).1 ≡ Undefined cause → ⊥) → Holds m h arguments (hard.turned h now t (Some y))
-    by-stands t (source_threads.Running a) (Running b) sides unhurt at hard_at is defined = turn-at m h image accepted arguments s threads turns
+    by-stands t (Running a) (Running b) sides unhurt at hard_at is defined = turn-at m h image accepted arguments s threads turns
         facts t a b sides unhurt is at hard_at defined is.frame.point
-    by-stands t (source_threads.Running a) (Exiting k) sides unhurt at hard_at is defined = absurd is
-    by-stands t (source_threads.Running a) Ended sides unhurt at hard_at is defined = absurd is
-    by-stands t (source_threads.Exiting n) (Running b) sides unhurt at hard_at is defined = absurd is
-    by-stands t (source_threads.Exiting n) (Exiting k) sides unhurt at hard_at is defined = rw is
+    by-stands t (Running a) (Exiting k) sides unhurt at hard_at is defined = absurd is
+    by-stands t (Running a) Ended sides unhurt at hard_at is defined = absurd is
+    by-stands t (Exiting n) (Running b) sides unhurt at hard_at is defined = absurd is
+    by-stands t (Exiting n) (Exiting k) sides unhurt at hard_at is defined = rw is
         (exits t n at (hard_at ∙ ap (λ (word : ℕ). Some (Exiting word)) is))
-    by-stands t (source_threads.Exiting n) Ended sides unhurt at hard_at is defined = absurd is
-    by-stands t source_threads.Ended (Running b) sides unhurt at hard_at is defined = absurd is
-    by-stands t source_threads.Ended (Exiting k) sides unhurt at hard_at is defined = absurd is
-    by-stands t source_threads.Ended Ended sides unhurt at hard_at is defined = waits m h arguments s threads turns facts t
+    by-stands t (Exiting n) Ended sides unhurt at hard_at is defined = absurd is
+    by-stands t Ended (Running b) sides unhurt at hard_at is defined = absurd is
+    by-stands t Ended (Exiting k) sides unhurt at hard_at is defined = absurd is
+    by-stands t Ended Ended sides unhurt at hard_at is defined = waits m h arguments s threads turns facts t
 
-    by-thread : (t : ℕ) (x : Option SourceThread) (y : Option Thread) → slice_get s.threads t ≡ x → slice_get threads t ≡ y → AreThreadsAt m h x y
+    by-thread : (t : ℕ) (x : Option (Thread SourceFrame)) (y : Option (Thread Frame)) → slice_get s.process.threads t ≡ x → slice_get threads t ≡ y → AreThreadsAt m h x y
         → ((cause : Cause) → (source.step m s t).1 ≡ Undefined cause → ⊥) → Holds m h arguments (hard.turned h now t y)
     by-thread t None None at hard_at is defined = waits m h arguments s threads turns facts t
     by-thread t None (Some y) at hard_at is defined = absurd is
     by-thread t (Some x) None at hard_at is defined = absurd is
-    by-thread t (Some x) (Some y) at hard_at is defined = by-stands t x y is.sides is.unhurt at hard_at is.stands defined
+    by-thread t (Some x) (Some y) at hard_at is defined = by-stands t x y is.index is.good at hard_at is.stands defined
 
     turn-kept : (t : ℕ) (answer : Step) → (source.step m s t).1 ≡ answer → Holds m h arguments (hard.turn_of h now t)
     turn-kept t (Undefined cause) e = let grown = turns-grow h now (TurnOf (record { 0 = t })) in not-defined m h arguments s threads turns facts t
         cause (hard.turn_of h now t) grown.more e grown.is
-    turn-kept t Went e = by-thread t (slice_get s.threads t) (slice_get threads t) refl refl (facts.each.each t)
+    turn-kept t Went e = by-thread t (slice_get s.process.threads t) (slice_get threads t) refl refl (facts.each.each t)
         (λ cause f. let both : Went ≡ Undefined cause = sym e ∙ f in cc)
-    turn-kept t Waits e = by-thread t (slice_get s.threads t) (slice_get threads t) refl refl (facts.each.each t)
+    turn-kept t Waits e = by-thread t (slice_get s.process.threads t) (slice_get threads t) refl refl (facts.each.each t)
         (λ cause f. let both : Waits ≡ Undefined cause = sym e ∙ f in cc)
-    turn-kept t Idle e = by-thread t (slice_get s.threads t) (slice_get threads t) refl refl (facts.each.each t)
+    turn-kept t Idle e = by-thread t (slice_get s.process.threads t) (slice_get threads t) refl refl (facts.each.each t)
         (λ cause f. let both : Idle ≡ Undefined cause = sym e ∙ f in cc)
-    turn-kept t (EndsProgram code) e = by-thread t (slice_get s.threads t) (slice_get threads t) refl refl (facts.each.each t)
+    turn-kept t (EndsProgram code) e = by-thread t (slice_get s.process.threads t) (slice_get threads t) refl refl (facts.each.each t)
         (λ cause f. let both : EndsProgram code ≡ Undefined cause = sym e ∙ f in cc)
 
   -- ---- events
@@ -114,8 +115,8 @@ module _ (m : ModuleParts) (h : HardParts) (image : IsImage m h) (accepted : IsA
 
   -- ---- the opening
 
-  opens : Holds m h arguments (hard_state.opening h arguments)
-  opens = Runs (source_state.opening m arguments) (hard_state.new_thread h 0 (source_state.main_of m) [] ∷ []) []
+  opens : Holds m h arguments (hard.opening h arguments)
+  opens = Runs (source.opening m arguments) (new_thread (hard.frames h) 0 (source_state.main_of m) [] ∷ []) []
       (rw (heads-layout m h image, heads-main m h image, image.heads) refl) (record {
         state = refl;
         went = tt;
@@ -124,14 +125,14 @@ module _ (m : ModuleParts) (h : HardParts) (image : IsImage m h) (accepted : IsA
         each = record { count = refl; each = each };
       })
     where
-      each : (t : ℕ) → AreThreadsAt m h (slice_get (source_state.new_thread m 0 (source_state.main_of m) [] ∷ []) t)
-          (slice_get (hard_state.new_thread h 0 (source_state.main_of m) [] ∷ []) t)
+      each : (t : ℕ) → AreThreadsAt m h (slice_get (new_thread (source.frames m) 0 (source_state.main_of m) [] ∷ []) t)
+          (slice_get (new_thread (hard.frames h) 0 (source_state.main_of m) [] ∷ []) t)
       each zero = record {
-        sides = Both;
-        unhurt = λ hurt. hurt;
+        index = Both;
+        good = λ hurt. hurt;
         stands = record {
           mark = refl;
-          frame = entered-frame m h image Both (source_state.main_of m) [] (source_state.stack_start 0)
+          frame = entered-frame m h image Both (source_state.main_of m) [] (stack_start 0)
               (main-enters m accepted);
           callers = tt;
         };
@@ -148,7 +149,7 @@ module _ (m : ModuleParts) (h : HardParts) (image : IsImage m h) (accepted : IsA
   same-code code n = (λ e. cc, λ e. cc)
 
   means-of : (r : RunResult) (turns : List ℕ) → turns_of r.turns ≡ turns → AllWent (source_runs.source m arguments turns).answers
-      → r.outs ≡ (source_runs.source m arguments turns).state.world.outputs
+      → r.outs ≡ (source_runs.source m arguments turns).state.process.world.outputs
       → ((code : ℕ) → (r.stop ≡ End code) ↔ (code_of (source_runs.source m arguments turns).answers ≡ Some code)) → (IsFailure r.stop → ⊥)
       → Means m arguments r
   means-of r turns e went outputs ends fails = record
@@ -157,14 +158,14 @@ module _ (m : ModuleParts) (h : HardParts) (image : IsImage m h) (accepted : IsA
   told-of : (last : State) → Holds m h arguments last → Told m arguments (result_of last)
   told-of last (Runs s threads turns is facts) =
       rw is (Meant (means-of (result_of (machine_of s threads turns)) turns (turns_of-grouped turns) facts.went
-      (sym (ap (λ (at : SourceState). at.world.outputs) facts.state)) (λ code. rw facts.unended (ended-alone code)) (λ failed. failed)))
+      (sym (ap (λ (at : SourceState). at.process.world.outputs) facts.state)) (λ code. rw facts.unended (ended-alone code)) (λ failed. failed)))
   told-of last (Over code stop went ended outputs) =
       Meant (means-of (result_of last) last.turns (turns_of-grouped last.turns) went outputs (λ n. rw (stop, ended) (same-code code n))
       (λ failed. rw stop at failed))
   told-of last (NotDefined u) = SourceUndefined (subst (λ (turns : List ℕ). IsUndefinedOn m arguments turns) (sym (turns_of-grouped last.turns)) u)
 
   pub told-runs : (events : List Happening) → IsUpsetFree events → Told m arguments (run_on h arguments events)
-  told-runs events free = told-of (run_from h (hard_state.opening h arguments) events) (run-holds (hard_state.opening h arguments) events free opens)
+  told-runs events free = told-of (run_from h (hard.opening h arguments) events) (run-holds (hard.opening h arguments) events free opens)
 
   pub meant-runs : (events : List Happening) → IsUpsetFree events → IsGood m arguments → Means m arguments (run_on h arguments events)
   meant-runs events free good = by-told (told-runs events free)

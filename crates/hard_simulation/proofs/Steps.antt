@@ -26,10 +26,11 @@ use Rattle.inst_meaning.specs.Action.{action_of, callees_of, destination}
 use Rattle.ir_core.specs.Instructions.{is_phi}
 use Rattle.inst_laws.specs.Agreement.{Agree, IsDefined}
 use Rattle.inst_laws.proofs.Agreement.{actions-same, put-agrees}
-use Rattle.src_meaning.specs.declared.state.CallStack.{CallStack as SourceStack}
-use Rattle.src_meaning.specs.declared.state.Thread.TheVariants as source_threads
-use Rattle.src_meaning.specs.declared.state.Step.{Step}
-use Rattle.src_meaning.specs.declared.state.Step.TheVariants.{Undefined}
+use Rattle.process.specs.declared.state.Step.{Step}
+use Rattle.process.specs.declared.state.Step.TheVariants.{Undefined}
+use Rattle.process.specs.State.{in_frame}
+use Rattle.process.specs.Process.{acted}
+use Rattle.src_meaning.specs.declared.state.Frame.{Frame as SourceFrame}
 use Rattle.src_meaning.specs.State as source_state
 use Rattle.src_meaning.specs.State.{State as SourceState}
 use Rattle.src_meaning.specs.Step as source
@@ -45,9 +46,9 @@ use Rattle.hard_ir.specs.declared.instruction.HInst.TheVariants.{Cut, Begin, Tic
 use Rattle.hard_ir.specs.Image.{is_doubled, unflagged, single_result, copies, flow, checked}
 use Rattle.hard_ir.specs.Hardened.{HardParts}
 use Rattle.hard_machine.specs.declared.state.Frame.{Frame}
-use Rattle.hard_machine.specs.declared.state.CallStack.{CallStack}
-use Rattle.hard_machine.specs.declared.state.Thread.{Thread}
-use Rattle.hard_machine.specs.declared.state.Thread.TheVariants.{Running}
+use Rattle.process.specs.declared.state.CallStack.{CallStack}
+use Rattle.process.specs.declared.state.Thread.{Thread}
+use Rattle.process.specs.declared.state.Thread.TheVariants.{Running}
 use Rattle.hard_machine.specs.State as hard_state
 use Rattle.hard_machine.specs.State.{State}
 use Rattle.hard_machine.specs.Step as hard
@@ -134,10 +135,10 @@ get-behind [] x ys = refl
 get-behind (y ∷ xs) x ys = get-behind xs x ys
 
 module _ (m : ModuleParts) (h : HardParts) (image : IsImage m h) (accepted : IsAccepted m) (arguments : List ℕ) (s : SourceState)
-    (threads : List Thread) (turns : List ℕ)
-    (facts : Facts m h arguments s threads turns) (t : ℕ) (a : SourceStack) (b : CallStack) (sides : Sides) (unhurt : IsHurt sides → ⊥)
+    (threads : List (Thread Frame)) (turns : List ℕ)
+    (facts : Facts m h arguments s threads turns) (t : ℕ) (a : CallStack SourceFrame) (b : CallStack Frame) (sides : Sides) (unhurt : IsHurt sides → ⊥)
     (stack : IsStack m h sides a b)
-    (at : slice_get s.threads t ≡ Some (source_threads.Running a)) (hard_at : slice_get threads t ≡ Some (Running b))
+    (at : slice_get s.process.threads t ≡ Some (Running a)) (hard_at : slice_get threads t ≡ Some (Running b))
     (defined : (cause : Cause) → (source.step m s t).1 ≡ Undefined cause → ⊥) where
   abbrev now : State
   now = machine_of s threads turns
@@ -149,14 +150,15 @@ module _ (m : ModuleParts) (h : HardParts) (image : IsImage m h) (accepted : IsA
       left
 
   steps : (inst : Inst) (behind : List Inst) → source_code m a.frame ≡ inst ∷ behind
-      → source.step m s t ≡ source.acted m s t (destination inst) a (action_of (layout_of m) (callees_of m) a.frame.registers inst)
+      → source.step m s t ≡ source.settled s (acted (source.frames m) s.process t (destination inst) a
+      (action_of (layout_of m) (callees_of m) a.frame.registers inst))
   steps inst behind left = rw (facts.going, at, found inst behind left) refl
 
   not-faulty : (inst : Inst) (behind : List Inst) (cause : Cause) → source_code m a.frame ≡ inst ∷ behind
       → action_of (layout_of m) (callees_of m) a.frame.registers inst ≡ Fault cause → ⊥
   not-faulty inst behind cause left e =
-      let stays : source.acted m s t (destination inst) a
-      (action_of (layout_of m) (callees_of m) a.frame.registers inst) ≡ (s, Undefined cause) = rw e refl in
+      let stays : source.settled s (acted (source.frames m) s.process t (destination inst) a
+      (action_of (layout_of m) (callees_of m) a.frame.registers inst)) ≡ (s, Undefined cause) = rw e refl in
       defined cause (ap (λ (p : SourceState × Step). p.1) (steps inst behind left ∙ stays))
 
   somewhere : source_code m a.frame ≡ [] → ⊥
@@ -166,11 +168,11 @@ module _ (m : ModuleParts) (h : HardParts) (image : IsImage m h) (accepted : IsA
       let stays : source.step m s t ≡ (s, Undefined Unreachable) = rw (facts.going, at, none) refl in
       defined Unreachable (ap (λ (p : SourceState × Step). p.1) stays)
 
-  there : slice_get (source_runs.source m arguments turns).state.threads t ≡ Some (source_threads.Running a)
-  there = ap (λ (now : SourceState). slice_get now.threads t) facts.state ∙ at
+  there : slice_get (source_runs.source m arguments turns).state.process.threads t ≡ Some (Running a)
+  there = ap (λ (now : SourceState). slice_get now.process.threads t) facts.state ∙ at
 
   placed : IsPlaced m a.frame.function a.frame.block a.frame.index a.frame.registers
-  placed = (source-sound m arguments turns accepted t (source_threads.Running a) there).0
+  placed = (source-sound m arguments turns accepted t (Running a) there).0
 
   suited : (inst : Inst) (behind : List Inst) → source_code m a.frame ≡ inst ∷ behind
       → IsSuited m inst (action_of (layout_of m) (callees_of m) a.frame.registers inst)
@@ -269,7 +271,7 @@ module _ (m : ModuleParts) (h : HardParts) (image : IsImage m h) (accepted : IsA
       by_word (GivesWord own e known) =
           rw (action-is S (unflagged inst), e, unflagged-destination inst, to)
           (effects.moves m h image arguments s threads turns facts t a b sides unhurt stack at hard_at
-          (source.in_frame a (source.resulted (Some dst) word a.frame)) (hard.in_frame b (hard.resulted (Some (S, dst)) own b.frame)) s.memory s.world
+          (in_frame a (source.resulted (Some dst) word a.frame)) (in_frame b (hard.resulted (Some (S, dst)) own b.frame))
           (steps inst behind left ∙ rw (assigns, to) refl)
           (record {
             mark = stack.mark;
@@ -287,45 +289,6 @@ module _ (m : ModuleParts) (h : HardParts) (image : IsImage m h) (accepted : IsA
 
   -- ---- an instruction that is done once
 
-  no-result : (inst : Inst) (result : Option (Ty × Loc)) → destination inst ≡ in_source result → HasNoResult inst → result ≡ None
-  no-result inst None to none = refl
-  no-result inst (Some reg) to none = let both : Some reg.1 ≡ None = sym to ∙ none.1 in cc
-
-  acted-at : (inst : Inst) (result : Option (Ty × Loc)) → IsReady m h sides a.frame b.frame inst result → destination inst ≡ in_source result
-      → source_state.inst_at m a.frame ≡ Some inst
-      → (action : Action) → IsSuited m inst action → source.step m s t ≡ source.acted m s t (in_source result) a action
-      → Holds m h arguments (hard.settled h now t b.frame true (hard.acted h now.process t (on_master result) b action))
-  acted-at inst result ready to stands (Assign n) suits e = effects.assign-kept m h image arguments s threads turns facts t a b sides unhurt stack at
-      hard_at inst result ready n e defined
-  acted-at inst result ready to stands (Reserve size) suits e = effects.reserve-kept m h image arguments s threads turns facts t a b sides unhurt
-      stack at hard_at inst result ready size e defined
-  acted-at inst result ready to stands (Read place atomic) suits e = effects.read-kept m h image arguments s threads turns facts t a b sides unhurt
-      stack at hard_at inst result ready place atomic e defined
-  acted-at inst result ready to stands (Write place n atomic) suits e = effects.write-kept m h image arguments s threads turns facts t a b sides
-      unhurt stack at hard_at inst result ready place n atomic (no-result inst result to suits.suits) e defined
-  acted-at inst result ready to stands (Update place update) suits e = effects.update-kept m h image arguments s threads turns facts t a b sides
-      unhurt stack at hard_at inst result ready place update e defined
-  acted-at inst result ready to stands Pass suits e = effects.pass-kept m h image arguments s threads turns facts t a b sides unhurt stack at
-      hard_at inst result ready (no-result inst result to suits.suits) e defined
-  acted-at inst result ready to stands (Jump label) suits e = effects.jump-kept m h image arguments s threads turns facts t a b sides unhurt stack at
-      hard_at inst result ready label e defined
-      (lands m h image accepted sides a.frame b.frame ready.function ready.block ready.mark ready.masters ready.shadows inst label placed stands
-      suits.suits)
-  acted-at inst result ready to stands (Call n words) suits e = effects.call-kept m h image arguments s threads turns facts t a b sides unhurt stack
-      at hard_at inst result ready n words suits.suits.1 e defined
-  acted-at inst result ready to stands (Ask request) suits e = effects.ask-kept m h image arguments s threads turns facts t a b sides unhurt stack at
-      hard_at inst result ready request e defined
-  acted-at inst result ready to stands (Create address n argument) suits e = effects.create-kept m h image arguments s threads turns facts t a b
-      sides unhurt stack at hard_at inst result ready address n argument suits.suits.1 e defined
-  acted-at inst result ready to stands (Join other) suits e = effects.join-kept m h image arguments s threads turns facts t a b sides unhurt stack at
-      hard_at inst result ready other e defined
-  acted-at inst result ready to stands (Exit code) suits e = effects.exit-kept m h image arguments s threads turns facts t a b sides unhurt stack at
-      hard_at inst result ready code e
-  acted-at inst result ready to stands (Return n) suits e = effects.return-kept m h image arguments s threads turns facts t a b sides unhurt stack at
-      hard_at inst result ready n e defined
-  acted-at inst result ready to stands (Fault cause) suits e = effects.fault-kept m h image arguments s threads turns facts t a b sides unhurt stack
-      at hard_at inst result ready cause e defined
-
   single-at : (inst : Inst) (behind : List Inst) (rest : List HInst) → source_code m a.frame ≡ inst ∷ behind → is_doubled inst ≡ false
       → is_phi inst ≡ false
       → hard_code h b.frame ≡ Do M inst true ∷ (copies (single_result inst) ++ rest) → Image behind rest
@@ -337,10 +300,12 @@ module _ (m : ModuleParts) (h : HardParts) (image : IsImage m h) (accepted : IsA
       let action : hard.action_on h M b.frame inst ≡ action_of (layout_of m) (callees_of m) a.frame.registers inst = action-is M inst
       ∙ acts-alike (layout_of m) b.frame.masters a.frame.registers (callees_of m) inst single same in
       rw (action, master-takes (destination inst) (single_result inst) to)
-      (acted-at inst (single_result inst) ready to (found inst behind left) (action_of (layout_of m) (callees_of m) a.frame.registers inst)
-      (suited inst behind left)
-      (steps inst behind left ∙ ap (λ (dst : Option Loc). source.acted m s t dst a (action_of (layout_of m) (callees_of m) a.frame.registers inst))
-      to))
+      (effects.suited-kept m h image arguments s threads turns facts t a b sides unhurt stack at hard_at inst (single_result inst) ready to
+      (λ label jumps. lands m h image accepted sides a.frame b.frame ready.function ready.block ready.mark ready.masters ready.shadows inst label placed
+      (found inst behind left) jumps)
+      (action_of (layout_of m) (callees_of m) a.frame.registers inst) (suited inst behind left)
+      (steps inst behind left ∙ ap (λ (dst : Option Loc). source.settled s (acted (source.frames m) s.process t dst a
+      (action_of (layout_of m) (callees_of m) a.frame.registers inst))) to) defined)
     where
       master-takes : (dst : Option Loc) (result : Option (Ty × Loc)) → dst ≡ in_source result
           → option_map (λ (at : Loc). (M, at)) dst ≡ on_master result

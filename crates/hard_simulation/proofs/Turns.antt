@@ -5,10 +5,10 @@ use Rattle.ir_core.specs.Module.{ModuleParts}
 use Rattle.inst_meaning.specs.declared.actions.Cause.{Cause}
 use Rattle.inst_meaning.specs.Registers.{get}
 use Rattle.sched_file.specs.Events.{Happening, TurnOf, AbortOf, UpsetBy}
-use Rattle.src_meaning.specs.declared.state.Step.{Step}
-use Rattle.src_meaning.specs.declared.state.Step.TheVariants.{Went, Waits, Idle, Undefined, Ended}
-use Rattle.src_meaning.specs.State.{State as SourceState, opening}
-use Rattle.src_meaning.specs.Step.{step}
+use Rattle.process.specs.declared.state.Step.{Step}
+use Rattle.process.specs.declared.state.Step.TheVariants.{Went, Waits, Idle, Undefined, Ended}
+use Rattle.src_meaning.specs.State.{State as SourceState}
+use Rattle.src_meaning.specs.Step.{opening, step}
 use Rattle.src_meaning.specs.Runs.{run_from, source}
 use Rattle.src_meaning.specs.Races.{IsGood}
 use Rattle.hard_ir.specs.declared.instruction.HInst.{HInst}
@@ -16,11 +16,13 @@ use Rattle.hard_ir.specs.declared.instruction.HInst.TheVariants.{Cut, Begin, End
 use Rattle.hard_ir.specs.Hardened.{HardParts}
 use Rattle.hard_machine.specs.declared.outcome.Stop.{Stop}
 use Rattle.hard_machine.specs.declared.state.Frame.{Frame}
-use Rattle.hard_machine.specs.declared.state.CallStack.{CallStack}
-use Rattle.hard_machine.specs.declared.state.Thread.{Thread}
-use Rattle.hard_machine.specs.declared.state.Thread.TheVariants.{Running, Exiting, Ended as HasEnded}
-use Rattle.hard_machine.specs.State.{ProcessParts, State, inst_at}
-use Rattle.hard_machine.specs.Step.{acted, action_on, destination_on, retired, settled, is_active, agreed, compared, checked, copied, stepped, fetched, exited, turned, unless_stopped, turn_of}
+use Rattle.process.specs.declared.state.CallStack.{CallStack}
+use Rattle.process.specs.declared.state.Thread.{Thread}
+use Rattle.process.specs.declared.state.Thread.TheVariants.{Running, Exiting, Ended as HasEnded}
+use Rattle.process.specs.State.{ProcessParts}
+use Rattle.process.specs.Process.{acted}
+use Rattle.hard_machine.specs.State.{State, inst_at}
+use Rattle.hard_machine.specs.Step.{frames, action_on, destination_on, retired, settled, is_active, agreed, compared, checked, copied, stepped, fetched, exited, turned, unless_stopped, turn_of}
 use Rattle.hard_machine.specs.Runs.{happened}
 use Rattle.hard_simulation.specs.Meaning.{AllWent, code_of, IsUndefinedOn}
 
@@ -38,7 +40,7 @@ retired-grows : (s next : State) (retires : Bool) (t : ℕ) → next.turns ≡ s
 retired-grows s next true t e = record { more = t ∷ []; is = ap (λ (turns : List ℕ). turns ++ t ∷ []) e }
 retired-grows s next false t e = keeps s next e
 
-settled-grows : (h : HardParts) (s : State) (t : ℕ) (frame : Frame) (retires : Bool) (p : ProcessParts × Step)
+settled-grows : (h : HardParts) (s : State) (t : ℕ) (frame : Frame) (retires : Bool) (p : ProcessParts Frame × Step)
     → Grows s (settled h s t frame retires p)
 settled-grows h s t frame retires (process, Went) = retired-grows s _ retires t refl
 settled-grows h s t frame retires (process, Ended code) = retired-grows s _ retires t refl
@@ -46,26 +48,26 @@ settled-grows h s t frame retires (process, Undefined cause) = keeps s _ refl
 settled-grows h s t frame retires (process, Waits) = keeps s _ refl
 settled-grows h s t frame retires (process, Idle) = keeps s _ refl
 
-agreed-grows : (h : HardParts) (s : State) (t : ℕ) (stack : CallStack) (same : Bool) → Grows s (agreed h s t stack same)
+agreed-grows : (h : HardParts) (s : State) (t : ℕ) (stack : CallStack Frame) (same : Bool) → Grows s (agreed h s t stack same)
 agreed-grows h s t stack true = keeps s _ refl
 agreed-grows h s t stack false = keeps s _ refl
 
-compared-grows : (h : HardParts) (s : State) (t : ℕ) (stack : CallStack) (a b : Option ℕ) → Grows s (compared h s t stack a b)
+compared-grows : (h : HardParts) (s : State) (t : ℕ) (stack : CallStack Frame) (a b : Option ℕ) → Grows s (compared h s t stack a b)
 compared-grows h s t stack None b = keeps s _ refl
 compared-grows h s t stack (Some a) None = keeps s _ refl
 compared-grows h s t stack (Some a) (Some b) = agreed-grows h s t stack _
 
-checked-grows : (h : HardParts) (s : State) (t : ℕ) (stack : CallStack) (reg : Loc) (active : Bool) → Grows s (checked h s t stack reg active)
+checked-grows : (h : HardParts) (s : State) (t : ℕ) (stack : CallStack Frame) (reg : Loc) (active : Bool) → Grows s (checked h s t stack reg active)
 checked-grows h s t stack reg true = compared-grows h s t stack (get stack.frame.masters reg.0) (get stack.frame.shadows reg.0)
 checked-grows h s t stack reg false = keeps s _ refl
 
-copied-grows : (h : HardParts) (s : State) (t : ℕ) (stack : CallStack) (reg : Loc) (word : Option ℕ) → Grows s (copied h s t stack reg word)
+copied-grows : (h : HardParts) (s : State) (t : ℕ) (stack : CallStack Frame) (reg : Loc) (word : Option ℕ) → Grows s (copied h s t stack reg word)
 copied-grows h s t stack reg None = keeps s _ refl
 copied-grows h s t stack reg (Some n) = keeps s _ refl
 
-stepped-grows : (h : HardParts) (s : State) (t : ℕ) (stack : CallStack) (inst : HInst) → Grows s (stepped h s t stack inst)
+stepped-grows : (h : HardParts) (s : State) (t : ℕ) (stack : CallStack Frame) (inst : HInst) → Grows s (stepped h s t stack inst)
 stepped-grows h s t stack (Do side inst retires) =
-    settled-grows h s t stack.frame retires (acted h s.process t (destination_on side inst) stack (action_on h side stack.frame inst))
+    settled-grows h s t stack.frame retires (acted (frames h) s.process t (destination_on side inst) stack (action_on h side stack.frame inst))
 stepped-grows h s t stack (Chk when ty reg) = checked-grows h s t stack reg (is_active when)
 stepped-grows h s t stack (Mov ty reg) = copied-grows h s t stack reg (get stack.frame.masters reg.0)
 stepped-grows h s t stack Cut = keeps s _ refl
@@ -74,7 +76,7 @@ stepped-grows h s t stack End = keeps s _ refl
 stepped-grows h s t stack (Tick work) = keeps s _ refl
 stepped-grows h s t stack (ChkMem ty ptr val) = keeps s _ refl
 
-fetched-grows : (h : HardParts) (s : State) (t : ℕ) (stack : CallStack) (inst : Option HInst) → Grows s (fetched h s t stack inst)
+fetched-grows : (h : HardParts) (s : State) (t : ℕ) (stack : CallStack Frame) (inst : Option HInst) → Grows s (fetched h s t stack inst)
 fetched-grows h s t stack None = keeps s _ refl
 fetched-grows h s t stack (Some inst) = stepped-grows h s t stack inst
 
@@ -82,7 +84,7 @@ exited-grows : (s : State) (t n : ℕ) → Grows s (exited s t n)
 exited-grows s zero n = retired-grows s _ true zero refl
 exited-grows s (suc t) n = retired-grows s _ true (suc t) refl
 
-turned-grows : (h : HardParts) (s : State) (t : ℕ) (thread : Option Thread) → Grows s (turned h s t thread)
+turned-grows : (h : HardParts) (s : State) (t : ℕ) (thread : Option (Thread Frame)) → Grows s (turned h s t thread)
 turned-grows h s t None = keeps s s refl
 turned-grows h s t (Some HasEnded) = keeps s s refl
 turned-grows h s t (Some (Exiting n)) = exited-grows s t n

@@ -8,13 +8,13 @@ use Rattle.std.specs.List.{list_all}
 use Rattle.ir_core.specs.Module.{ModuleParts}
 use Rattle.inst_meaning.specs.declared.actions.Cause.{Cause}
 use Rattle.sched_file.specs.Events.{Happening}
-use Rattle.src_meaning.specs.declared.state.Step.{Step}
-use Rattle.src_meaning.specs.declared.state.Step.TheVariants.{Went, Undefined, Ended}
+use Rattle.process.specs.declared.state.Step.{Step}
+use Rattle.process.specs.declared.state.Step.TheVariants.{Went, Waits, Idle, Undefined, Ended}
 use Rattle.src_meaning.specs.Step.{step}
 use Rattle.src_meaning.specs.Runs.{source}
 use Rattle.turn_runs.specs.Runs.{turns_of}
 use Rattle.hard_machine.specs.declared.outcome.Stop.{Stop}
-use Rattle.hard_machine.specs.declared.outcome.Stop.TheVariants.{End, Fail, Trap}
+use Rattle.hard_machine.specs.declared.outcome.Stop.TheVariants.{End, Bound, Fail, Trap}
 use Rattle.hard_machine.specs.declared.outcome.RunResult.{RunResult}
 use Rattle.hard_machine.specs.Runs.{is_no_upset}
 
@@ -27,7 +27,9 @@ abbrev pub AllWent : List Step → Type 0
 AllWent [] = Unit {0}
 AllWent (Went ∷ answers) = AllWent answers
 AllWent (Ended code ∷ answers) = answers ≡ []
-AllWent (other ∷ answers) = ⊥
+AllWent (Waits ∷ answers) = ⊥
+AllWent (Idle ∷ answers) = ⊥
+AllWent (Undefined cause ∷ answers) = ⊥
 
 -- the last answer, where it is Ended
 abbrev pub code_of : List Step → Option ℕ
@@ -39,12 +41,13 @@ code_of (answer ∷ answers) = code_of answers
 abbrev pub IsFailure : Stop → Type 0
 IsFailure (Fail tid at) = Unit {0}
 IsFailure (Trap tid at) = Unit {0}
-IsFailure stop = ⊥
+IsFailure (End code) = ⊥
+IsFailure Bound = ⊥
 
 -- the result stands for the source run on the turns that it tells
 pub record Means (m : ModuleParts) (arguments : List ℕ) (r : RunResult) : Type 0 where
   pub went : AllWent (source m arguments (turns_of r.turns)).answers
-  pub outputs : r.outs ≡ (source m arguments (turns_of r.turns)).state.world.outputs
+  pub outputs : r.outs ≡ (source m arguments (turns_of r.turns)).state.process.world.outputs
   pub ends : (code : ℕ) → (r.stop ≡ End code) ↔ (code_of (source m arguments (turns_of r.turns)).answers ≡ Some code)
   pub never_fails : IsFailure r.stop → ⊥
 

@@ -13,7 +13,9 @@ use Rattle.hard_ir.specs.declared.instruction.When.TheVariants.{Always}
 use Rattle.hard_ir.specs.declared.instruction.HInst.TheVariants.{Chk, Do}
 use Rattle.hard_ir.specs.Image.{no_flags}
 use Rattle.hard_ir.specs.Hardened.{HardParts}
-use Rattle.hard_machine.specs.State.{State, new_thread}
+use Rattle.process.specs.State.{new_thread}
+use Rattle.hard_machine.specs.State.{State}
+use Rattle.hard_machine.specs.Step.{frames}
 
 -- a register gets 2 and a number more
 abbrev pub sum_of : ℕ → Inst
@@ -39,7 +41,7 @@ differing = record {
 -- thread 0 stands at the entry of its one function, `main`
 abbrev pub entered : Memory → State
 entered memory = record {
-  process = record { memory = memory; threads = new_thread differing 0 0 [] ∷ []; world = opening_world [] };
+  process = record { memory = memory; threads = new_thread (frames differing) 0 0 [] ∷ []; world = opening_world [] };
   turns = [];
   stop = None;
 }

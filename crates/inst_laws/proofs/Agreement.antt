@@ -1,6 +1,6 @@
 -- Register files that hold the same words give the same actions and the same words to phis, and agree still when both take a word.
-use Rattle.std.proofs.Common.{ℕ, zero, suc, ◌≡◌, ◌%◌, ◌^◌, ◌==◌, Bool, List, [], ◌∷◌, Option, Some, None, if◌then◌else◌, refl, ap, ◌∙◌}
-use Rattle.std.specs.List.{slice_index_or}
+use Rattle.std.proofs.Common.{ℕ, zero, suc, ◌≡◌, ◌%◌, ◌^◌, ◌==◌, Bool, true, false, cond, nat_eq, List, [], ◌∷◌, ◌++◌, find, Option, Some, None, slice_get, if◌then◌else◌, refl, ap, ◌∙◌}
+use Rattle.std.specs.List.{slice_index_or, flat_map}
 use Rattle.std.specs.Option.{option_map, option_and_then}
 use Rattle.ir_core.specs.declared.types.Ty.{Ty}
 use Rattle.ir_core.specs.declared.types.Loc.{Loc}
@@ -12,6 +12,8 @@ use Rattle.ir_core.specs.declared.instruction.Inst.{Inst}
 use Rattle.ir_core.specs.declared.instruction.Inst.TheVariants as insts
 use Rattle.op_table.specs.Operators.{bits, binary, compares, converted}
 use Rattle.ir_layout.specs.Memory.{LayoutParts}
+use Rattle.ir_flow.specs.Uses.{reg_in, reg_in_arg, reg_in_index, regs_in, arms_in}
+use Rattle.ir_check.proofs.Members.{IsIn, next-in, in-front, in-back, in-flat}
 use Rattle.ir_calls.specs.declared.externals.External.{External}
 use Rattle.ir_calls.specs.declared.externals.External.TheVariants.{PthreadCreate, PthreadJoin, MutexLock, MutexUnlock, Putchar, Exit as ExitProgram, Malloc, Free, HaftOut, HaftArg}
 use Rattle.inst_meaning.specs.Registers.{get, put}
@@ -76,106 +78,170 @@ on_width-same (Some w) f g h = h w
 
 -- ---- operands
 
-module _ (l : LayoutParts) (a b : List (Option ℕ)) (h : Agree a b) where
-  word_of-same : (value : Val) → word_of l a value ≡ word_of l b value
-  word_of-same (values.Reg at) = h.same at.0
-  word_of-same (values.Int n) = refl
-  word_of-same values.Null = refl
-  word_of-same (values.Global sym) = refl
-  word_of-same (values.Gep gep) = refl
+module _ (l : LayoutParts) (a b : List (Option ℕ)) where
+  -- these registers have the same words in both files
+  abbrev pub AreSameIn : List Loc → Type 0
+  AreSameIn regs = (reg : Loc) → IsIn reg regs → get a reg.0 ≡ get b reg.0
 
-  at-same : (w : Width) (value : Val) → word_at l a w value ≡ word_at l b w value
-  at-same w value = ap (option_map (λ word. word % 2 ^ bits w)) (word_of-same value)
+  first-part : (xs ys : List Loc) → AreSameIn (xs ++ ys) → AreSameIn xs
+  first-part xs ys h reg is = h reg (in-front reg xs ys is)
 
-  typed-found : (found : Option Width) (value : Val) → option_and_then (λ w. word_at l a w value) found ≡ option_and_then (λ w. word_at l b w value) found
-  typed-found None value = refl
-  typed-found (Some w) value = at-same w value
+  later-part : (xs ys : List Loc) → AreSameIn (xs ++ ys) → AreSameIn ys
+  later-part xs ys h reg is = h reg (in-back reg xs ys is)
 
-  typed-same : (ty : Ty) (value : Val) → typed_word l a ty value ≡ typed_word l b ty value
-  typed-same ty value = typed-found (width_of ty) value
+  word_of-same : (value : Val) → AreSameIn (reg_in value) → word_of l a value ≡ word_of l b value
+  word_of-same (values.Reg at) h = h at (0, refl)
+  word_of-same (values.Int n) h = refl
+  word_of-same values.Null h = refl
+  word_of-same (values.Global sym) h = refl
+  word_of-same (values.Gep gep) h = refl
 
-  arguments-same : (arguments : List (Ty × Val)) → argument_words l a arguments ≡ argument_words l b arguments
-  arguments-same [] = refl
-  arguments-same (argument ∷ arguments) = two words_with (typed-same argument.0 argument.1) (arguments-same arguments)
+  at-same : (w : Width) (value : Val) → AreSameIn (reg_in value) → word_at l a w value ≡ word_at l b w value
+  at-same w value h = ap (option_map (λ word. word % 2 ^ bits w)) (word_of-same value h)
 
-  indices-same : (indices : List (Width × Val)) → index_words l a indices ≡ index_words l b indices
-  indices-same [] = refl
-  indices-same (index ∷ indices) = two (index_with index.0) (at-same index.0 index.1) (indices-same indices)
+  typed-found : (found : Option Width) (value : Val) → AreSameIn (reg_in value)
+      → option_and_then (λ w. word_at l a w value) found ≡ option_and_then (λ w. word_at l b w value) found
+  typed-found None value h = refl
+  typed-found (Some w) value h = at-same w value h
+
+  typed-same : (ty : Ty) (value : Val) → AreSameIn (reg_in value) → typed_word l a ty value ≡ typed_word l b ty value
+  typed-same ty value h = typed-found (width_of ty) value h
+
+  arguments-same : (arguments : List (Ty × Val)) → AreSameIn (flat_map reg_in_arg arguments) → argument_words l a arguments ≡ argument_words l b arguments
+  arguments-same [] h = refl
+  arguments-same (argument ∷ arguments) h = two words_with
+      (typed-same argument.0 argument.1 (first-part (reg_in argument.1) (flat_map reg_in_arg arguments) h))
+      (arguments-same arguments (later-part (reg_in argument.1) (flat_map reg_in_arg arguments) h))
+
+  indices-same : (indices : List (Width × Val)) → AreSameIn (flat_map reg_in_index indices) → index_words l a indices ≡ index_words l b indices
+  indices-same [] h = refl
+  indices-same (index ∷ indices) h = two (index_with index.0)
+      (at-same index.0 index.1 (first-part (reg_in index.1) (flat_map reg_in_index indices) h))
+      (indices-same indices (later-part (reg_in index.1) (flat_map reg_in_index indices) h))
 
   -- ---- actions
 
-  creating-same : (callees : List Callee) (arguments : List (Ty × Val)) → creating l callees a arguments ≡ creating l callees b arguments
-  creating-same callees [] = refl
-  creating-same callees (x ∷ []) = refl
-  creating-same callees (x ∷ y ∷ []) = refl
-  creating-same callees (x ∷ y ∷ z ∷ []) = refl
-  creating-same callees (to ∷ y ∷ start ∷ argument ∷ []) =
-      two (λ p q. on_word p (λ address. on_word (named_function callees start.1) (λ n. on_word q (λ x. Create address n x)))) (typed-same to.0 to.1) (typed-same argument.0 argument.1)
-  creating-same callees (x ∷ y ∷ z ∷ u ∷ v ∷ arguments) = refl
+  nth-part : (n : ℕ) (argument : Ty × Val) (arguments : List (Ty × Val)) → slice_get arguments n ≡ Some argument → AreSameIn (flat_map reg_in_arg arguments)
+      → AreSameIn (reg_in argument.1)
+  nth-part n argument arguments there h reg is = h reg (in-flat reg_in_arg argument reg arguments (n, there) is)
 
-  asking-same : (external : External) (arguments : List (Ty × Val)) → asking l a external arguments ≡ asking l b external arguments
-  asking-same external [] = refl
-  asking-same external (argument ∷ others) = one (λ p. on_word p (asked external)) (typed-same argument.0 argument.1)
+  creating-same : (callees : List Callee) (arguments : List (Ty × Val)) → AreSameIn (flat_map reg_in_arg arguments)
+      → creating l callees a arguments ≡ creating l callees b arguments
+  creating-same callees [] h = refl
+  creating-same callees (x ∷ []) h = refl
+  creating-same callees (x ∷ y ∷ []) h = refl
+  creating-same callees (x ∷ y ∷ z ∷ []) h = refl
+  creating-same callees (to ∷ y ∷ start ∷ argument ∷ []) h =
+      two (λ p q. on_word p (λ address. on_word (named_function callees start.1) (λ n. on_word q (λ x. Create address n x))))
+      (typed-same to.0 to.1 (nth-part 0 to (to ∷ y ∷ start ∷ argument ∷ []) refl h))
+      (typed-same argument.0 argument.1 (nth-part 3 argument (to ∷ y ∷ start ∷ argument ∷ []) refl h))
+  creating-same callees (x ∷ y ∷ z ∷ u ∷ v ∷ arguments) h = refl
 
-  outside-same : (callees : List Callee) (external : External) (arguments : List (Ty × Val)) → outside l callees a external arguments ≡ outside l callees b external arguments
-  outside-same callees PthreadCreate arguments = creating-same callees arguments
-  outside-same callees PthreadJoin arguments = asking-same PthreadJoin arguments
-  outside-same callees MutexLock arguments = asking-same MutexLock arguments
-  outside-same callees MutexUnlock arguments = asking-same MutexUnlock arguments
-  outside-same callees Putchar arguments = asking-same Putchar arguments
-  outside-same callees ExitProgram arguments = asking-same ExitProgram arguments
-  outside-same callees Malloc arguments = asking-same Malloc arguments
-  outside-same callees Free arguments = asking-same Free arguments
-  outside-same callees HaftOut arguments = asking-same HaftOut arguments
-  outside-same callees HaftArg arguments = asking-same HaftArg arguments
+  asking-same : (external : External) (arguments : List (Ty × Val)) → AreSameIn (flat_map reg_in_arg arguments)
+      → asking l a external arguments ≡ asking l b external arguments
+  asking-same external [] h = refl
+  asking-same external (argument ∷ others) h =
+      one (λ p. on_word p (asked external)) (typed-same argument.0 argument.1 (nth-part 0 argument (argument ∷ others) refl h))
 
-  calling-same : (callees : List Callee) (callee : Callee) (arguments : List (Ty × Val)) → calling l callees a callee arguments ≡ calling l callees b callee arguments
-  calling-same callees (Defined n) arguments = one (entering n) (arguments-same arguments)
-  calling-same callees (Outside external) arguments = outside-same callees external arguments
-  calling-same callees Unknown arguments = refl
+  outside-same : (callees : List Callee) (external : External) (arguments : List (Ty × Val)) → AreSameIn (flat_map reg_in_arg arguments)
+      → outside l callees a external arguments ≡ outside l callees b external arguments
+  outside-same callees PthreadCreate arguments h = creating-same callees arguments h
+  outside-same callees PthreadJoin arguments h = asking-same PthreadJoin arguments h
+  outside-same callees MutexLock arguments h = asking-same MutexLock arguments h
+  outside-same callees MutexUnlock arguments h = asking-same MutexUnlock arguments h
+  outside-same callees Putchar arguments h = asking-same Putchar arguments h
+  outside-same callees ExitProgram arguments h = asking-same ExitProgram arguments h
+  outside-same callees Malloc arguments h = asking-same Malloc arguments h
+  outside-same callees Free arguments h = asking-same Free arguments h
+  outside-same callees HaftOut arguments h = asking-same HaftOut arguments h
+  outside-same callees HaftArg arguments h = asking-same HaftArg arguments h
+
+  calling-same : (callees : List Callee) (callee : Callee) (arguments : List (Ty × Val)) → AreSameIn (flat_map reg_in_arg arguments)
+      → calling l callees a callee arguments ≡ calling l callees b callee arguments
+  calling-same callees (Defined n) arguments h = one (entering n) (arguments-same arguments h)
+  calling-same callees (Outside external) arguments h = outside-same callees external arguments h
+  calling-same callees Unknown arguments h = refl
 
   cast-same : (is : Bool) (to : Option ℕ → Action) (p q : Option ℕ) → p ≡ q → (if is then to p else Fault Unreachable) ≡ (if is then to q else Fault Unreachable)
   cast-same is to p q e = ap (λ p. if is then to p else Fault Unreachable) e
 
-  pub actions-same : (callees : List Callee) (inst : Inst) → action_of l callees a inst ≡ action_of l callees b inst
-  actions-same callees (insts.Bin dst op flags w x y) =
-      two (λ p q. on_word p (λ x. on_word q (λ y. operated (binary op flags (bits w) x y)))) (at-same w x) (at-same w y)
-  actions-same callees (insts.Cmp dst pred ty x y) =
-      on_width-same (width_of ty) _ _ (λ w. two (λ p q. on_word p (λ x. on_word q (λ y. Assign (truth (compares pred (bits w) x y))))) (at-same w x) (at-same w y))
-  actions-same callees (insts.Select dst condition ty x y) =
-      three (λ p q r. on_word p (λ c. on_word q (λ x. on_word r (λ y. Assign (if c == 1 then x else y))))) (at-same W1 condition) (typed-same ty x) (typed-same ty y)
-  actions-same callees (insts.Cast dst op from x to) =
-      on_width-same (width_of from) _ _ (λ v. on_width-same (width_of to) _ _ (λ w. cast-same (is_cast op v w) (λ p. on_word p (λ x. Assign (converted op (bits v) (bits w) x))) _ _ (at-same v x)))
-  actions-same callees (insts.Gep dst base ptr index) = two (λ p q. on_word p (λ address. inner_pointer l base address q)) (at-same W64 ptr) (indices-same index)
-  actions-same callees (insts.Alloca dst ty) = refl
-  actions-same callees (insts.Load dst ty ptr atomic) = on_width-same (memory_width ty) _ _ (λ w. one (λ p. on_word p (λ address. Read (place_at address w) atomic)) (at-same W64 ptr))
-  actions-same callees (insts.Store ty val ptr atomic) =
-      on_width-same (memory_width ty) _ _ (λ w. two (λ p q. on_word p (λ address. on_word q (λ x. Write (place_at address w) x atomic))) (at-same W64 ptr) (at-same w val))
-  actions-same callees (insts.Rmw dst op ptr ty val) =
-      on_width-same (memory_width ty) _ _ (λ w. two (λ p q. on_word p (λ address. on_word q (λ x. Update (place_at address w) (Combine op w x)))) (at-same W64 ptr) (at-same w val))
-  actions-same callees (insts.CmpXchg dst ptr ty expected desired) =
-      on_width-same (memory_width ty) _ _ (λ w. three (λ p q r. on_word p (λ address. on_word q (λ x. on_word r (λ y. Update (place_at address w) (Exchange w x y))))) (at-same W64 ptr) (at-same w expected) (at-same w desired))
-  actions-same callees insts.Fence = refl
-  actions-same callees (insts.Extract dst elem pair index) = on_width-same (width_of elem) _ _ (λ w. one (λ p. on_word p (λ x. Assign (extracted index w x))) (h.same pair.0))
-  actions-same callees (insts.Call dst ret callee args) = calling-same callees (slice_index_or callees callee.0 Unknown) args
-  actions-same callees (insts.Phi dst ty arms) = refl
-  actions-same callees (insts.Br to) = refl
-  actions-same callees (insts.CondBr condition on_true on_false) = one (λ p. on_word p (λ c. Jump (if c == 1 then on_true else on_false))) (at-same W1 condition)
-  actions-same callees (insts.Switch ty on default cases) = one (λ p. on_word p (λ n. Jump (case_of n cases default))) (typed-same ty on)
-  actions-same callees (insts.Ret ty None) = refl
-  actions-same callees (insts.Ret ty (Some value)) = one (λ p. on_word p (λ n. Return n)) (typed-same ty value)
-  actions-same callees insts.Unreachable = refl
+  -- an instruction asks for the same where the registers that it reads are the same
+  pub uses-same : (callees : List Callee) (inst : Inst) → AreSameIn (regs_in inst) → action_of l callees a inst ≡ action_of l callees b inst
+  uses-same callees (insts.Bin dst op flags w x y) h =
+      two (λ p q. on_word p (λ x. on_word q (λ y. operated (binary op flags (bits w) x y))))
+      (at-same w x (first-part (reg_in x) (reg_in y) h)) (at-same w y (later-part (reg_in x) (reg_in y) h))
+  uses-same callees (insts.Cmp dst pred ty x y) h =
+      on_width-same (width_of ty) _ _ (λ w. two (λ p q. on_word p (λ x. on_word q (λ y. Assign (truth (compares pred (bits w) x y)))))
+      (at-same w x (first-part (reg_in x) (reg_in y) h)) (at-same w y (later-part (reg_in x) (reg_in y) h)))
+  uses-same callees (insts.Select dst condition ty x y) h =
+      three (λ p q r. on_word p (λ c. on_word q (λ x. on_word r (λ y. Assign (if c == 1 then x else y)))))
+      (at-same W1 condition (first-part (reg_in condition) (reg_in x) (first-part (reg_in condition ++ reg_in x) (reg_in y) h)))
+      (typed-same ty x (later-part (reg_in condition) (reg_in x) (first-part (reg_in condition ++ reg_in x) (reg_in y) h)))
+      (typed-same ty y (later-part (reg_in condition ++ reg_in x) (reg_in y) h))
+  uses-same callees (insts.Cast dst op from x to) h =
+      on_width-same (width_of from) _ _ (λ v. on_width-same (width_of to) _ _ (λ w. cast-same (is_cast op v w)
+      (λ p. on_word p (λ x. Assign (converted op (bits v) (bits w) x))) _ _ (at-same v x h)))
+  uses-same callees (insts.Gep dst base ptr index) h = two (λ p q. on_word p (λ address. inner_pointer l base address q))
+      (at-same W64 ptr (first-part (reg_in ptr) (flat_map reg_in_index index) h)) (indices-same index (later-part (reg_in ptr) (flat_map reg_in_index index) h))
+  uses-same callees (insts.Alloca dst ty) h = refl
+  uses-same callees (insts.Load dst ty ptr atomic) h =
+      on_width-same (memory_width ty) _ _ (λ w. one (λ p. on_word p (λ address. Read (place_at address w) atomic)) (at-same W64 ptr h))
+  uses-same callees (insts.Store ty val ptr atomic) h =
+      on_width-same (memory_width ty) _ _ (λ w. two (λ p q. on_word p (λ address. on_word q (λ x. Write (place_at address w) x atomic)))
+      (at-same W64 ptr (later-part (reg_in val) (reg_in ptr) h)) (at-same w val (first-part (reg_in val) (reg_in ptr) h)))
+  uses-same callees (insts.Rmw dst op ptr ty val) h =
+      on_width-same (memory_width ty) _ _ (λ w. two (λ p q. on_word p (λ address. on_word q (λ x. Update (place_at address w) (Combine op w x))))
+      (at-same W64 ptr (first-part (reg_in ptr) (reg_in val) h)) (at-same w val (later-part (reg_in ptr) (reg_in val) h)))
+  uses-same callees (insts.CmpXchg dst ptr ty expected desired) h =
+      on_width-same (memory_width ty) _ _ (λ w. three (λ p q r. on_word p (λ address. on_word q (λ x. on_word r (λ y. Update (place_at address w) (Exchange w x y)))))
+      (at-same W64 ptr (first-part (reg_in ptr) (reg_in expected) (first-part (reg_in ptr ++ reg_in expected) (reg_in desired) h)))
+      (at-same w expected (later-part (reg_in ptr) (reg_in expected) (first-part (reg_in ptr ++ reg_in expected) (reg_in desired) h)))
+      (at-same w desired (later-part (reg_in ptr ++ reg_in expected) (reg_in desired) h)))
+  uses-same callees insts.Fence h = refl
+  uses-same callees (insts.Extract dst elem pair index) h =
+      on_width-same (width_of elem) _ _ (λ w. one (λ p. on_word p (λ x. Assign (extracted index w x))) (h pair (0, refl)))
+  uses-same callees (insts.Call dst ret callee args) h = calling-same callees (slice_index_or callees callee.0 Unknown) args h
+  uses-same callees (insts.Phi dst ty arms) h = refl
+  uses-same callees (insts.Br to) h = refl
+  uses-same callees (insts.CondBr condition on_true on_false) h =
+      one (λ p. on_word p (λ c. Jump (if c == 1 then on_true else on_false))) (at-same W1 condition h)
+  uses-same callees (insts.Switch ty on default cases) h = one (λ p. on_word p (λ n. Jump (case_of n cases default))) (typed-same ty on h)
+  uses-same callees (insts.Ret ty None) h = refl
+  uses-same callees (insts.Ret ty (Some value)) h = one (λ p. on_word p (λ n. Return n)) (typed-same ty value h)
+  uses-same callees insts.Unreachable h = refl
 
   -- ---- phis
 
-  arm-same : (ty : Ty) (arm : Option Val) → option_and_then (typed_word l a ty) arm ≡ option_and_then (typed_word l b ty) arm
-  arm-same ty None = refl
-  arm-same ty (Some value) = typed-same ty value
+  -- the registers of a phi's arms
+  abbrev pub regs_of_phi : Inst → List Loc
+  regs_of_phi phi = flat_map (λ arm. reg_in arm.0) (arms_in phi)
 
-  phi-same : (label : Loc) (phi : Inst) → phi_word l a label phi ≡ phi_word l b label phi
-  phi-same label (insts.Phi dst ty arms) = ap (option_map (λ n. (dst, n))) (arm-same ty (arm_from label arms))
-  phi-same label inst = refl
+  arm-same : (ty : Ty) (label : Loc) (arms : List (Val × Loc)) → AreSameIn (flat_map (λ arm. reg_in arm.0) arms)
+      → option_and_then (typed_word l a ty) (arm_from label arms) ≡ option_and_then (typed_word l b ty) (arm_from label arms)
+  arm-same ty label [] h = refl
+  arm-same ty label (arm ∷ arms) h = by_test (nat_eq arm.1.0 label.0) (arm-same ty label arms (later-part (reg_in arm.0) (flat_map (λ arm. reg_in arm.0) arms) h))
+    where
+      by_test : (found : Bool) → option_and_then (typed_word l a ty) (arm_from label arms) ≡ option_and_then (typed_word l b ty) (arm_from label arms)
+          → option_and_then (typed_word l a ty) (option_map (λ arm. arm.0) (cond found (Some arm) (find (λ arm. nat_eq arm.1.0 label.0) arms)))
+          ≡ option_and_then (typed_word l b ty) (option_map (λ arm. arm.0) (cond found (Some arm) (find (λ arm. nat_eq arm.1.0 label.0) arms)))
+      by_test true rest = typed-same ty arm.0 (first-part (reg_in arm.0) (flat_map (λ arm. reg_in arm.0) arms) h)
+      by_test false rest = rest
+
+  pub phi-same : (label : Loc) (phi : Inst) → AreSameIn (regs_of_phi phi) → phi_word l a label phi ≡ phi_word l b label phi
+  phi-same label (insts.Phi dst ty arms) h = ap (option_map (λ n. (dst, n))) (arm-same ty label arms h)
+  phi-same label inst h = refl
+
+  pub phi-words-same : (label : Loc) (phis : List Inst) → ((phi : Inst) → IsIn phi phis → AreSameIn (regs_of_phi phi))
+      → phi_words l a label phis ≡ phi_words l b label phis
+  phi-words-same label [] h = refl
+  phi-words-same label (phi ∷ phis) h =
+      two phi_words_with (phi-same label phi (h phi (0, refl))) (phi-words-same label phis (λ other is. h other (next-in other phi phis is)))
+
+-- ---- files that are the same everywhere
+
+module _ (l : LayoutParts) (a b : List (Option ℕ)) (h : Agree a b) where
+  pub actions-same : (callees : List Callee) (inst : Inst) → action_of l callees a inst ≡ action_of l callees b inst
+  actions-same callees inst = uses-same l a b callees inst (λ reg is. h.same reg.0)
 
   pub phis-same : (label : Loc) (phis : List Inst) → phi_words l a label phis ≡ phi_words l b label phis
-  phis-same label [] = refl
-  phis-same label (phi ∷ phis) = two phi_words_with (phi-same label phi) (phis-same label phis)
+  phis-same label phis = phi-words-same l a b label phis (λ phi is reg there. h.same reg.0)

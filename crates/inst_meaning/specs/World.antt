@@ -12,7 +12,7 @@ use Rattle.ir_core.specs.declared.types.Loc.{Loc}
 use Rattle.ir_core.specs.declared.values.Out.{Out}
 use Rattle.ir_core.specs.declared.values.Out.TheVariants.{Num, Put as PutByte}
 use Rattle.ir_layout.specs.Shapes.{round_up}
-use Rattle.mem_image.specs.Bytes.{heap_start, area_size}
+use Rattle.ir_layout.specs.Memory.{area_size, heap_start}
 use Rattle.inst_meaning.specs.Phis.{assigned}
 use Rattle.inst_meaning.specs.declared.actions.Cause.TheVariants.{Unlock as UnlockCause}
 use Rattle.inst_meaning.specs.declared.actions.Request.{Request}

@@ -8,10 +8,9 @@ ghost use Rattle.inst_meaning.specs.Accesses.{Fits};
 
 use crate::{Access, Action, Callee, Operands, Place, Update};
 use ir_core::Inst;
+use ir_layout::THREAD_LIMIT;
 use mem_image::{Size, overlap};
 use op_table::{bit_count, rmw};
-
-const THREAD_LIMIT: usize = 64;
 
 impl Update {
     /// The word that stands there, once this one did.

@@ -7,13 +7,12 @@ ghost use Rattle.inst_meaning.specs.World.{opening_world, given_out, heap_next, 
 
 use crate::{Cause, Registers, Reply, Request};
 use ir_core::{Loc, Out, Outs, Seq, Tid};
+use ir_layout::{AREA_SIZE, HEAP_START};
 use std::alloc::{AllocError, Global};
 use std::collections::BTreeMap;
 use std::marker::Model;
 
-const HEAP_START: u64 = 0x400_0000;
-
-const HEAP_END: u64 = 0x410_0000;
+const HEAP_END: u64 = HEAP_START + AREA_SIZE;
 
 /// Who owns which lock, how far the heap is given out, what the run was given and what it gave out. Contracts see these four.
 #[derive(Drop)]
@@ -25,7 +24,8 @@ pub struct World {
 }
 
 impl Model for World {
-    ghost use Rattle.std.specs.Prelude.{◌≤◌};
+    ghost use Rattle.std.specs.Prelude.{◌+◌, ◌≤◌};
+    ghost use Rattle.ir_layout.specs.Memory.{area_size, heap_start};
     ghost use Rattle.inst_meaning.specs.World.{WorldParts};
 
     ghost Value = { WorldParts };
@@ -37,7 +37,7 @@ impl Model for World {
       outputs = w.outputs.items;
     } };
 
-    ghost invariant = { λ w. w.heap_mark ≤ 68157440 };
+    ghost invariant = { λ w. w.heap_mark ≤ heap_start + area_size };
 }
 
 impl World {

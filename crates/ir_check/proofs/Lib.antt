@@ -3,3 +3,5 @@ pub mod Rules
 pub mod Chains
 pub mod Used
 pub mod OneFault
+pub mod Members
+pub mod ModuleLines

@@ -3,7 +3,7 @@
 -- Choices: a type that nests too deep breaks that limit alone. A line breaks a limit where a type that it writes does, whatever
 -- part of the line that type belongs to; the parts of these types aren't looked at. Named types come before globals, each in
 -- the module's order; at one place the first limit in the order of `LimitKind` counts.
-use Rattle.std.specs.Prelude.{ℕ, ◌≡◌, Bool, true, false, not, List, [], ◌∷◌, ◌++◌, Option, Some, None, nat_lt, slice_get, unwrap_or, codes, if◌then◌else◌}
+use Rattle.std.specs.Prelude.{ℕ, ◌≡◌, ◌+◌, Bool, true, false, not, List, [], ◌∷◌, ◌++◌, Option, Some, None, nat_lt, slice_get, unwrap_or, codes, if◌then◌else◌}
 use Rattle.std.specs.List.{list_all}
 use Rattle.std.specs.Option.{option_or}
 use Rattle.ir_core.specs.declared.types.Ty.{Ty}
@@ -12,7 +12,7 @@ use Rattle.ir_core.specs.declared.values.GlobalVar.{GlobalVar}
 use Rattle.ir_core.specs.Module.{ModuleParts}
 use Rattle.ir_layout.specs.Shapes.{Shape, shape_of}
 use Rattle.ir_layout.specs.KeptShapes.{size_limit}
-use Rattle.ir_layout.specs.Memory.{globals_start, span_at, end_of}
+use Rattle.ir_layout.specs.Memory.{area_size, globals_start, span_at, end_of}
 use Rattle.ir_layout.specs.WrittenTypes.{types_in_global}
 use Rattle.ir_layout.specs.declared.limits.LimitKind.{LimitKind}
 use Rattle.ir_layout.specs.declared.limits.LimitKind.TheVariants.{Globals, TypeSize, TypeDepth}
@@ -47,7 +47,7 @@ limit_among types written =
 
 -- one past the last address of globals
 abbrev pub globals_end : ℕ
-globals_end = 1114112
+globals_end = globals_start + area_size
 
 -- a name of a table, and no bytes where it has none of that number
 abbrev pub name_at : List (List ℕ) → ℕ → List ℕ

@@ -25,10 +25,33 @@ pub record LayoutParts : Type 0 where
 abbrev pub Addresses : Type 0
 Addresses = HashMap ℕ ℕ (BuildHasherDefault FoldHasher)
 
--- ---- globals
+-- ---- the address map
+
+-- how many bytes each area has: the globals, the stacks together, the heap
+abbrev pub area_size : ℕ
+area_size = 1048576
 
 abbrev pub globals_start : ℕ
 globals_start = 65536
+
+abbrev pub stacks_start : ℕ
+stacks_start = 16777216
+
+-- of one thread
+abbrev pub stack_size : ℕ
+stack_size = 16384
+
+abbrev pub heap_start : ℕ
+heap_start = 67108864
+
+-- how many threads there may be, and how many frames a thread may have
+abbrev pub thread_limit : ℕ
+thread_limit = 64
+
+abbrev pub frame_limit : ℕ
+frame_limit = 256
+
+-- ---- globals
 
 -- each global stands at the next multiple of 16 behind those before it
 abbrev pub span_at : List (TypeId × Ty) → ℕ → GlobalVar → Span
@@ -71,15 +94,6 @@ abbrev pub lies_in_global : List Span → ℕ → ℕ → Bool
 lies_in_global globals address size = list_any (λ span. lies_in span.start span.size address size) globals
 
 -- the stack regions of the threads stand side by side; the thread whose region an address lies in, from 0
-abbrev pub stacks_start : ℕ
-stacks_start = 16777216
-
-abbrev pub stack_size : ℕ
-stack_size = 16384
-
-abbrev pub thread_limit : ℕ
-thread_limit = 64
-
 abbrev pub thread_of : ℕ → ℕ
 thread_of address = (address - stacks_start) / stack_size
 
@@ -87,7 +101,7 @@ abbrev pub lies_in_stack : ℕ → ℕ → Bool
 lies_in_stack address size = nat_lt (thread_of address) thread_limit && lies_in (stacks_start + thread_of address * stack_size) stack_size address size
 
 abbrev pub lies_in_heap : ℕ → ℕ → Bool
-lies_in_heap address size = lies_in 67108864 1048576 address size
+lies_in_heap address size = lies_in heap_start area_size address size
 
 -- the sizes of accesses
 abbrev pub is_access_size : ℕ → Bool

@@ -4,6 +4,7 @@ ghost use Rattle.ir_layout.specs.Memory.{layout_of, spans_from, span_at, globals
 ghost use Rattle.ir_layout.specs.Limits.{limit_of_global, first_of_types, first_of_globals, first_limit, globals_end, name_at, Refuses};
 
 use crate::Layout;
+use crate::address_map::{AREA_SIZE, GLOBALS_START};
 use crate::limits::{LayoutError, LimitKind, limit_among, refusal};
 use crate::spans::Span;
 use crate::type_table::TypeTable;
@@ -11,9 +12,7 @@ use ir_core::{GlobalVar, Module, Sym, TypeId};
 use std::alloc::{AllocError, Global};
 use std::collections::HashMap;
 
-const GLOBALS_START: u64 = 0x1_0000;
-
-const GLOBALS_END: u64 = 0x11_0000;
+const GLOBALS_END: u64 = GLOBALS_START + AREA_SIZE;
 
 // Refuses the first named type that breaks a limit.
 fn check_types(alloc: Global, m: &Module, types: &TypeTable) -> Result<(), LayoutError>

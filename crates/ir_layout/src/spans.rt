@@ -2,6 +2,7 @@
 ghost use Rattle.std.specs.Prelude.{◌≡◌, ◌+◌, ◌<◌, ◌≤◌};
 ghost use Rattle.ir_layout.specs.Memory.{lies_in, lies_in_global, lies_in_stack, is_valid, AreApart, IsStarted};
 
+use crate::address_map::{AREA_SIZE, HEAP_START, STACK_SIZE, STACKS_START, THREAD_LIMIT};
 use ir_core::Sym;
 
 /// Where a global stands: so many bytes from its start on.
@@ -11,16 +12,6 @@ pub(crate) struct Span {
     pub start: u64,
     pub size: u64,
 }
-
-const STACKS_START: u64 = 0x100_0000;
-
-const STACK_SIZE: u64 = 0x4000;
-
-const THREAD_LIMIT: u64 = 64;
-
-const HEAP_START: u64 = 0x400_0000;
-
-const HEAP_SIZE: u64 = 0x10_0000;
 
 // Whether the bytes from `address` on lie among those from `start` on.
 fn lies_in(start: u64, length: u64, address: u64, size: u64) -> bool
@@ -66,7 +57,7 @@ fn lies_in_stack(address: u64, size: u64) -> bool
     ensures { result ≡ lies_in_stack address size }
 {
     let thread = address.saturating_sub(STACKS_START) / STACK_SIZE;
-    thread < THREAD_LIMIT
+    thread < THREAD_LIMIT as u64
         && lies_in(
             STACKS_START + thread * STACK_SIZE,
             STACK_SIZE,
@@ -85,5 +76,5 @@ pub(crate) fn is_valid(globals: &[Span], address: u64, size: u64) -> bool
         && address % size == 0
         && (lies_in_global(globals, address, size)
             || lies_in_stack(address, size)
-            || lies_in(HEAP_START, HEAP_SIZE, address, size))
+            || lies_in(HEAP_START, AREA_SIZE, address, size))
 }

@@ -12,5 +12,7 @@ mod parse;
 mod plain;
 mod results;
 
+/// Why a line is no instruction: its first unfit token, or want of memory.
+pub use ir_parse_parts::LineError as InstError;
 pub use lines::instruction;
 pub use parse::{parse_inst, read_inst};

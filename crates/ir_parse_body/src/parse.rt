@@ -4,7 +4,7 @@ ghost use Rattle.ir_core.specs.Tokens.{AreWithin};
 ghost use Rattle.ir_grammar.specs.Tokens.{tokens_of};
 ghost use Rattle.ir_grammar.specs.Lines.{instruction};
 ghost use Rattle.ir_grammar.specs.Fitting.{IsInstruction, IsUnfit};
-ghost use Rattle.ir_parse_body.specs.Instruction.{StandsFor, KeepsAllButNames};
+ghost use Rattle.ir_parse_body.specs.Instruction.{StandsFor, MayHaveNames};
 ghost use Rattle.ir_parse_parts.specs.declared.stops.LineError.TheVariants.{Unfit};
 
 use crate::lines::instruction;
@@ -30,7 +30,7 @@ pub fn read_inst(alloc: Global, line: &[u8], tokens: &[Token]) -> Result<Inst, L
 /// they are new, in the order in which the line writes them.
 ///
 /// `line` is the text that the places of the tokens count from: one line, or the lines of one `switch`.
-/// After `Unfit` nothing has changed. For want of memory the tables may have some of the names.
+/// After `Unfit` nothing has changed. For want of memory the tables may have the first of these names, and nothing else has changed.
 pub fn parse_inst(
     alloc: Global,
     m: &mut Module,
@@ -43,7 +43,7 @@ pub fn parse_inst(
     ensures inst { IfOk result (StandsFor line.now tokens.now m.old f.old m.new f.new) }
     ensures unfit { (k : ℕ) → IsErrOf result (Unfit k) → IsUnfit instruction.means (tokens_of line.now tokens.now) k }
     ensures unchanged { (k : ℕ) → IsErrOf result (Unfit k) → (m.new ≡ m.old) × (f.new ≡ f.old) }
-    ensures err { OnErr result (KeepsAllButNames m.old f.old m.new f.new) }
+    ensures err { OnErr result (MayHaveNames line.now tokens.now m.old f.old m.new f.new) }
 {
     let tree = read_inst(alloc, line, tokens)?;
     let inst = numbered(&tree, line, m, f, alloc);

@@ -151,10 +151,9 @@ pub record Text (text : List ℕ) (m : ModuleParts) : Type 0 where
   pub read : HasTree text tree
   pub is : m ≡ numbered_module (with_numerals (numerals_for tree.funcs) text) tree
 
--- some text of at most 4 MiB stands for the module
+-- some text stands for the module
 pub record IsOfText (m : ModuleParts) : Type 0 where
   pub text : List ℕ
-  pub short : length text ≤ 4194304
   pub stands : Text text m
 
 -- Line n, counted from 1, is the first that fits no form at its place.

@@ -1,8 +1,9 @@
 -- Memory with the bytes of an area replaced.
 use Rattle.std.proofs.Common.{◌≡◌, ℕ, List, length, refl, ap}
+use Rattle.ir_layout.specs.Memory.{area_size}
 use Rattle.mem_image.specs.declared.areas.Area.{Area}
 use Rattle.mem_image.specs.declared.areas.Area.TheVariants.{Globals, Stacks, Heap}
-use Rattle.mem_image.specs.Bytes.{Memory, IsWhole, area_size, bytes_in, with_bytes, word_at, with_word}
+use Rattle.mem_image.specs.Bytes.{Memory, IsWhole, bytes_in, with_bytes, word_at, with_word}
 
 -- the area has the new bytes
 pub same_area : (mem : Memory) (area : Area) (bs : List ℕ) → bytes_in (with_bytes mem area bs) area ≡ bs

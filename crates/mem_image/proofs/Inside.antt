@@ -4,10 +4,10 @@ use Rattle.std.specs.Prelude.{Bool, ◌&&◌, nat_lt, if◌then◌else◌}
 use Rattle.std.specs.List.{list_all}
 use Rattle.std.proofs.lemmas.Bool.Decides.{nat_tests}
 use Rattle.ir_layout.specs.declared.spans.Span.{Span}
-use Rattle.ir_layout.specs.Memory.{globals_start, stacks_start, lies_in, lies_in_global, lies_in_stack, lies_in_heap, thread_of, is_access_size, is_valid}
+use Rattle.ir_layout.specs.Memory.{area_size, globals_start, stacks_start, heap_start, lies_in, lies_in_global, lies_in_stack, lies_in_heap, thread_of, is_access_size, is_valid}
 use Rattle.mem_image.specs.declared.areas.Area.{Area}
 use Rattle.mem_image.specs.declared.areas.Area.TheVariants.{Globals, Stacks, Heap}
-use Rattle.mem_image.specs.Bytes.{area_of, start_of, place_of, area_size, heap_start}
+use Rattle.mem_image.specs.Bytes.{area_of, start_of, place_of}
 
 pub record IsInside (a n : ℕ) : Type 0 where
   pub start : start_of (area_of a) ≤ a

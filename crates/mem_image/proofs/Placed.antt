@@ -10,10 +10,9 @@ use Rattle.ir_core.specs.declared.values.GlobalVar.{GlobalVar}
 use Rattle.ir_core.specs.Module.{ModuleParts}
 use Rattle.ir_layout.specs.declared.spans.Span.{Span}
 use Rattle.ir_layout.specs.declared.limits.LimitKind.{LimitKind}
-use Rattle.ir_layout.specs.Memory.{LayoutParts, globals_start, lies_in, span_at, end_of, spans_from, layout_of}
+use Rattle.ir_layout.specs.Memory.{LayoutParts, area_size, globals_start, lies_in, span_at, end_of, spans_from, layout_of}
 use Rattle.ir_layout.specs.Limits.{limit_of_global, placed, global_place, first_of_types, first_of_globals, first_limit, globals_end}
 use Rattle.ir_layout.proofs.PlacingLemmas.{fits-end, le-end}
-use Rattle.mem_image.specs.Bytes.{area_size}
 
 abbrev in_area : Span → Bool
 in_area span = lies_in globals_start area_size span.start span.size

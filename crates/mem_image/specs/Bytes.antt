@@ -6,7 +6,7 @@ use Rattle.std.specs.Prelude.{ℕ, ◌+◌, ◌-◌, ◌≡◌, true, List, ◌+
 use Rattle.std.specs.List.{list_all}
 use Rattle.byteorder.specs.Endian.{little_number, little_bytes}
 use Rattle.ir_layout.specs.declared.spans.Span.{Span}
-use Rattle.ir_layout.specs.Memory.{globals_start, stacks_start, lies_in, is_valid}
+use Rattle.ir_layout.specs.Memory.{area_size, globals_start, stacks_start, heap_start, lies_in, is_valid}
 use Rattle.mem_image.specs.declared.areas.Area.{Area}
 use Rattle.mem_image.specs.declared.areas.Area.TheVariants.{Globals, Stacks, Heap}
 
@@ -18,13 +18,6 @@ pub record Memory : Type 0 where
   pub heap : List ℕ
 
 -- ---- areas
-
-abbrev pub heap_start : ℕ
-heap_start = 67108864
-
--- how many bytes each area has
-abbrev pub area_size : ℕ
-area_size = 1048576
 
 -- the area that a valid address lies in
 abbrev pub area_of : ℕ → Area

@@ -1,3 +1,7 @@
 pub mod Accesses
 pub mod Bytes
+pub mod Laws
+pub mod Lines
 pub mod Opening
+pub mod Touches
+pub mod Views

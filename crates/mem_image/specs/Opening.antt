@@ -13,10 +13,10 @@ use Rattle.ir_core.specs.declared.values.Init.TheOpen.{Init-F}
 use Rattle.ir_layout.specs.Shapes.{known_shape, field_start, size_of}
 use Rattle.ir_layout.specs.KeptShapes.{word}
 use Rattle.ir_layout.specs.Offsets.{offset_of}
-use Rattle.ir_layout.specs.Memory.{LayoutParts, globals_start, address_of}
+use Rattle.ir_layout.specs.Memory.{LayoutParts, area_size, globals_start, address_of}
 use Rattle.ir_layout.specs.Limits.{limit_of}
 use Rattle.ir_layout.specs.declared.limits.LimitKind.{LimitKind}
-use Rattle.mem_image.specs.Bytes.{Memory, area_size}
+use Rattle.mem_image.specs.Bytes.{Memory}
 
 unfoldable pub zeroes : ℕ → List ℕ
 zeroes n = replicate n 0

@@ -5,6 +5,7 @@ ghost use Rattle.mem_image.specs.Bytes.{area_of, start_of, word_at, with_word};
 
 use crate::Size;
 use byteorder::{ByteOrder, LittleEndian};
+use ir_layout::{GLOBALS_START, HEAP_START, STACKS_START};
 
 /// Where the bytes of a valid access lie.
 #[derive(Clone, Copy)]
@@ -13,12 +14,6 @@ pub(crate) enum Area {
     Stacks,
     Heap,
 }
-
-const GLOBALS_START: u64 = 0x1_0000;
-
-const STACKS_START: u64 = 0x100_0000;
-
-const HEAP_START: u64 = 0x400_0000;
 
 impl Area {
     /// The area that a valid address lies in.

@@ -1,21 +1,18 @@
 //! An image of memory, read and written.
 ghost use Rattle.std.specs.Prelude.{◌≡◌, ◌+◌, ◌*◌, ◌^◌, ◌<◌, ◌≤◌, None, IfOk, IfSome, length, unwrap_or};
 ghost use Rattle.std.specs.Option.{is_some};
-ghost use Rattle.ir_layout.specs.Memory.{layout_of};
+ghost use Rattle.ir_layout.specs.Memory.{area_size, layout_of};
 ghost use Rattle.ir_layout.specs.Limits.{first_limit};
 ghost use Rattle.mem_image.specs.Accesses.{bytes};
-ghost use Rattle.mem_image.specs.Bytes.{area_size, bytes_in, place_of_access, read_of, written};
+ghost use Rattle.mem_image.specs.Bytes.{bytes_in, place_of_access, read_of, written};
 ghost use Rattle.mem_image.specs.Opening.{opening};
 
 use crate::areas::{Area, put_word, word_at};
 use crate::{Size, opening};
 use ir_core::Module;
-use ir_layout::{GlobalPlaces, Layout};
+use ir_layout::{AREA_SIZE, GlobalPlaces, Layout};
 use std::alloc::{AllocError, Global};
 use std::marker::Model;
-
-// How many bytes each area has.
-const AREA_SIZE: usize = 0x10_0000;
 
 /// The memory of a program. Contracts see the places of its globals and the bytes of its areas.
 #[derive(Drop)]
@@ -55,9 +52,9 @@ impl Image {
     {
         let places = l.global_places(alloc)?;
         let mut globals = opening::global_bytes(alloc, l, m)?;
-        opening::fit(&mut globals, AREA_SIZE as u64)?;
-        let stacks = opening::zeroes(alloc, AREA_SIZE)?;
-        let heap = opening::zeroes(alloc, AREA_SIZE)?;
+        opening::fit(&mut globals, AREA_SIZE)?;
+        let stacks = opening::zeroes(alloc, AREA_SIZE as usize)?;
+        let heap = opening::zeroes(alloc, AREA_SIZE as usize)?;
         Ok(Image {
             places,
             globals,

@@ -4,10 +4,8 @@ ghost use Rattle.byteorder.specs.Endian.{little_bytes};
 ghost use Rattle.mem_image.specs.Opening.{exactly, zeroes, size_in, address_in, inner_address, with_part, bytes_given, with_global};
 
 use ir_core::{ConstGep, GlobalVar, Init, Module, Sym, Ty};
-use ir_layout::Layout;
+use ir_layout::{GLOBALS_START, Layout};
 use std::alloc::{AllocError, Global};
-
-const GLOBALS_START: u64 = 0x1_0000;
 
 /// So many zeroes.
 #[tactic(auto, unfolding(crate::specs::Opening::zeroes))]

@@ -19,22 +19,22 @@ clash_of-same a b c d e f = ap (λ x. clash_of x b) e ∙ ap (clash_of c) f
 pub race_in-state : (m : ModuleParts) (s : State) (accesses : List (Option Access)) → AreAccesses m s accesses → race_in accesses ≡ race_of m s
 race_in-state m s accesses h =
     ap (λ n. find (clashes_in accesses) (pairs_of n)) h.count
-    ∙ find-same (clashes_in accesses) (is_race m s) (length s.threads) (λ t u order within. clash_of-same _ _ _ _ (h.each t (omega arith)) (h.each u within))
+    ∙ find-same (clashes_in accesses) (is_race m s) (length s.process.threads) (λ t u order within. clash_of-same _ _ _ _ (h.each t (omega arith)) (h.each u within))
 
 -- thread t went from a state without a race, and made no thread
 pub record Followed (m : ModuleParts) (before : State) (t : ℕ) (after : State) (accesses new : List (Option Access)) : Type 0 where
   pub known : AreAccesses m before accesses
   pub none : race_of m before ≡ None
   pub moved : Moved before t after
-  pub same : length after.threads ≡ length before.threads
-  pub made : t < length before.threads
+  pub same : length after.process.threads ≡ length before.process.threads
+  pub made : t < length before.process.threads
   pub is : new ≡ slice_set accesses t (next_access m after t)
 
 module _ (m : ModuleParts) (before : State) (t : ℕ) (after : State) (accesses new : List (Option Access)) (h : Followed m before t after accesses new) where
-  at-other : (u : ℕ) → (u ≡ t → ⊥) → u < length before.threads → access_at new u ≡ next_access m before u
+  at-other : (u : ℕ) → (u ≡ t → ⊥) → u < length before.process.threads → access_at new u ≡ next_access m before u
   at-other u other within = ap (λ xs. access_at xs u) h.is ∙ get_or-set_other accesses t u (next_access m after t) None other ∙ h.known.each u within
 
-  at-each : (u : ℕ) → u < length before.threads → access_at new u ≡ next_access m after u
+  at-each : (u : ℕ) → u < length before.process.threads → access_at new u ≡ next_access m after u
   at-each u within = by (eqb u t) refl
     where
       by : (b : Bool) → eqb u t ≡ b → access_at new u ≡ next_access m after u
@@ -44,7 +44,7 @@ module _ (m : ModuleParts) (before : State) (t : ℕ) (after : State) (accesses 
           ap (access_at new) same ∙ ap (λ xs. access_at xs t) h.is ∙ get_or-set_same accesses t (next_access m after t) None there ∙ ap (next_access m after) (sym same)
       by false e = at-other u (eqb-false u t e) within ∙ sym (next_access-moved m before t after h.moved h.same u (eqb-false u t e) within)
 
-  length-new : length new ≡ length after.threads
+  length-new : length new ≡ length after.process.threads
   length-new = ap (λ (xs : List (Option Access)). length xs) h.is ∙ length-set accesses t (next_access m after t) ∙ h.known.count ∙ sym h.same
 
   pub followed : AreAccesses m after new
@@ -52,6 +52,6 @@ module _ (m : ModuleParts) (before : State) (t : ℕ) (after : State) (accesses 
 
   pub apart : OthersAreApart new t
   apart a b first second order within =
-      let there : b < length before.threads = omega (arith, length-new, h.same) in
+      let there : b < length before.process.threads = omega (arith, length-new, h.same) in
       clash_of-same _ _ _ _ (at-other a first (omega arith)) (at-other b second there)
-      ∙ find-lacks (is_race m before) (length before.threads) h.none a b order there
+      ∙ find-lacks (is_race m before) (length before.process.threads) h.none a b order there

@@ -2,8 +2,8 @@
 use Rattle.std.proofs.Common.{ℕ, suc, List, ◌∷◌, append-nil, ◌≡◌, ◌⊎◌, inl, inr, None, ap, sym, ◌∙◌, subst, refl}
 use Rattle.ir_core.specs.Module.{ModuleParts}
 use Rattle.inst_meaning.specs.declared.actions.Cause.{Cause}
-use Rattle.src_meaning.specs.declared.state.Step.{Step}
-use Rattle.src_meaning.specs.declared.state.Step.TheVariants.{Went, Waits, Idle, Undefined}
+use Rattle.process.specs.declared.state.Step.{Step}
+use Rattle.process.specs.declared.state.Step.TheVariants.{Went, Waits, Idle, Undefined}
 use Rattle.src_meaning.specs.State.{State, Sourced}
 use Rattle.src_meaning.specs.Step.{step}
 use Rattle.src_meaning.specs.Races.{race_of}
@@ -39,8 +39,8 @@ went-table before after t table new e went kept none =
     let P : Sourced → Type 0 = λ source. Follows source t table new → IsTable source.program source.state new in
     subst P (sym e) (λ follows. follows before.state kept none went refl)
 
-pub undefined-stops : (m : ModuleParts) (n : ℕ) (s : State) (t : ℕ) (cause : Cause) (log turns : List ℕ) → (step m s t).1 ≡ Undefined cause → record { stop = stops.Undefined n (tid t) cause; outputs = s.world.outputs; turns = log } ≡ behind log (watch_from m n s (t ∷ turns))
+pub undefined-stops : (m : ModuleParts) (n : ℕ) (s : State) (t : ℕ) (cause : Cause) (log turns : List ℕ) → (step m s t).1 ≡ Undefined cause → record { stop = stops.Undefined n (tid t) cause; outputs = s.process.world.outputs; turns = log } ≡ behind log (watch_from m n s (t ∷ turns))
 undefined-stops m n s t cause log turns e =
-    let here : List ℕ → Watched = λ went. record { stop = stops.Undefined n (tid t) cause; outputs = s.world.outputs; turns = went } in
+    let here : List ℕ → Watched = λ went. record { stop = stops.Undefined n (tid t) cause; outputs = s.process.world.outputs; turns = went } in
     ap here (sym (append-nil log))
     ∙ ap (λ answer. behind log (at_turn n s t answer (race_of m s) (step m s t).0 (watch_from m (suc n) (step m s t).0 turns))) (sym e)

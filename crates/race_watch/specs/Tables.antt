@@ -25,8 +25,8 @@ OthersAreApart accesses t = (a b : ℕ) → (a ≡ t → ⊥) → (b ≡ t → �
 
 -- the list has the next access of each thread
 pub record AreAccesses (m : ModuleParts) (s : State) (accesses : List (Option Access)) : Type 0 where
-  pub count : length accesses ≡ length s.threads
-  pub each : (t : ℕ) → t < length s.threads → access_at accesses t ≡ next_access m s t
+  pub count : length accesses ≡ length s.process.threads
+  pub each : (t : ℕ) → t < length s.process.threads → access_at accesses t ≡ next_access m s t
 
 -- the table is that of a state
 pub record IsTable (m : ModuleParts) (s : State) (table : Table) : Type 0 where

@@ -1,7 +1,7 @@
 -- A watch that is under way.
 use Rattle.std.specs.Prelude.{ℕ, ◌≡◌, List, [], ◌++◌}
 use Rattle.ir_core.specs.Module.{ModuleParts}
-use Rattle.src_meaning.specs.State.{opening}
+use Rattle.src_meaning.specs.Step.{opening}
 use Rattle.race_watch.specs.declared.outcome.SrcStop.{SrcStop}
 use Rattle.race_watch.specs.declared.watching.Watcher.{Watcher}
 use Rattle.race_watch.specs.Tables.{IsTable}
@@ -27,4 +27,4 @@ outcome_on w turns = behind w.log (watch_from w.source.program w.passed w.source
 
 -- what it comes to, where it stops here
 abbrev pub stopped : Watcher → SrcStop → Watched
-stopped w stop = record { stop = stop; outputs = w.source.state.world.outputs; turns = w.log }
+stopped w stop = record { stop = stop; outputs = w.source.state.process.world.outputs; turns = w.log }

@@ -9,10 +9,10 @@ use Rattle.ir_core.specs.Module.{ModuleParts}
 use Rattle.sched_file.specs.Schedule.{ScheduleParts}
 use Rattle.sched_file.specs.Events.{Happening, TurnOf, AbortOf, UpsetBy, events_of}
 use Rattle.turn_runs.specs.Runs.{grouped}
-use Rattle.src_meaning.specs.declared.state.Step.{Step}
-use Rattle.src_meaning.specs.declared.state.Step.TheVariants.{Went, Undefined as IsUndefined, Ended}
-use Rattle.src_meaning.specs.State.{State, opening}
-use Rattle.src_meaning.specs.Step.{step}
+use Rattle.process.specs.declared.state.Step.{Step}
+use Rattle.process.specs.declared.state.Step.TheVariants.{Went, Undefined as IsUndefined, Ended}
+use Rattle.src_meaning.specs.State.{State}
+use Rattle.src_meaning.specs.Step.{opening, step}
 use Rattle.src_meaning.specs.Races.{race_of}
 use Rattle.race_watch.specs.declared.outcome.SrcStop.{SrcStop}
 use Rattle.race_watch.specs.declared.outcome.SrcStop.TheVariants.{End, Bound, Undefined, Race}
@@ -32,7 +32,7 @@ pub record Watched : Type 0 where
   pub turns : List ℕ
 
 abbrev pub halted : SrcStop → State → List ℕ → Watched
-halted stop s turns = record { stop = stop; outputs = s.world.outputs; turns = turns }
+halted stop s turns = record { stop = stop; outputs = s.process.world.outputs; turns = turns }
 
 abbrev pub with_turn : ℕ → Watched → Watched
 with_turn t watched = record watched { turns = t ∷ watched.turns }

@@ -4,7 +4,7 @@ ghost use Rattle.std.specs.Option.{option_map};
 ghost use Rattle.src_meaning.specs.State.{State};
 ghost use Rattle.src_meaning.specs.Step.{step};
 ghost use Rattle.src_meaning.specs.Races.{next_access, race_of};
-ghost use Rattle.src_meaning.specs.declared.state.Step.TheVariants.{Went};
+ghost use Rattle.process.specs.declared.state.Step.TheVariants.{Went};
 ghost use Rattle.race_watch.specs.Pairs.{numbers_of};
 ghost use Rattle.race_watch.specs.Tables.{race_in, OthersAreApart, AreAccesses, IsTable};
 

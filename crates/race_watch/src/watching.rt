@@ -1,6 +1,5 @@
 //! A watched run.
 ghost use Rattle.std.specs.Prelude.{◌≡◌, ◌+◌, ◌<◌, ◌≤◌, ◌^◌, ◌∷◌, [], List, ℕ, length, Some, None, IfOk, IfSome, OnOk};
-ghost use Rattle.sched_file.specs.Events.{events_of};
 ghost use Rattle.src_meaning.specs.Step.{step};
 ghost use Rattle.turn_runs.specs.Runs.{grouped};
 ghost use Rattle.race_watch.specs.Watching.{result_of, watch_of};
@@ -37,7 +36,7 @@ fn stepped(source: &mut Source<'_>, t: Tid) -> Result<Step, AllocError>
 
 // What has been given out so far.
 fn given_out(alloc: Global, source: &Source<'_>) -> Result<Outs, AllocError>
-    ensures { IfOk result (λ outs. outs ≡ source.now.state.world.outputs) }
+    ensures { IfOk result (λ outs. outs ≡ source.now.state.process.world.outputs) }
 {
     Ok(Seq::from_vec(Vec::from_slice(alloc, source.outputs())?))
 }
@@ -159,7 +158,6 @@ impl<'a> Watcher<'a> {
 /// Watches a run of a module over a schedule: up to the first end, undefined step or race, or to the last of the turns. Aborts and
 /// upsets of the schedule are passed over.
 pub fn watch(alloc: Global, m: &Accepted, s: &Schedule) -> Result<WatchResult, AllocError>
-    requires few { length (events_of s.now.lines) < 2 ^ 64 }
     ensures { IfOk result (λ r. r ≡ watch_of m.now s.now) }
 {
     let mut watcher = Watcher::new(alloc, m, s.args())?;

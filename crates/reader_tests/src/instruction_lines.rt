@@ -1,4 +1,4 @@
-//! Instruction lines: what they stand for, and the tokens at which they stop to fit.
+//! Instruction lines: what they stand for. At which tokens lines are refused is in `tests/lines.txt`.
 use crate::shown::shown;
 use ir_core::{Func, Inst, Module, Sym, Ty};
 use ir_lex::lex_line;
@@ -314,193 +314,9 @@ const ACCESSES_AND_TRANSFERS: &[(&str, &str)] = &[
     ("ret ptr @f", "ret ptr @0"),
 ];
 
-/// Lines in two halves: the first token of the second half is the unfit one, or the end where there is none.
-const UNFIT: &[(&str, &str)] = &[
-    ("", ""),
-    ("", "x:"),
-    ("", "*"),
-    ("", "add i64 1, 2"),
-    ("", "@x = add i64 1, 2"),
-    ("", "musttail call void @f()"),
-    ("", "load i8, ptr %p"),
-    ("%x ", "add"),
-    ("%x = ", "store i8 1, ptr %p"),
-    ("%x = ", "br label %a"),
-    ("%x = ", "ret void"),
-    ("%x = ", "fadd i64 1, 2"),
-    ("%x = add ", "exact i64 1, 2"),
-    ("%x = udiv ", "nuw i64 1, 2"),
-    ("%x = urem ", "exact i64 1, 2"),
-    ("%x = and ", "disjoint i64 1, 2"),
-    ("%x = or ", "nsw i64 1, 2"),
-    ("%x = lshr ", "nuw i64 1, 2"),
-    ("%x = shl nuw ", "exact i64 1, 2"),
-    ("%x = add ", "ptr %a, %b"),
-    ("%x = add ", "i128 1, 2"),
-    ("%x = add ", "%T %a, %b"),
-    ("%x = add i64 ", "null, 1"),
-    ("%x = add i64 ", "@g, 1"),
-    ("%x = add i64 ", "true, 1"),
-    ("%x = add i64 1", ""),
-    ("%x = add i64 1, ", "i64 2"),
-    ("%x = add i64 1, 2 ", "3"),
-    ("%x = add i64 1, 2, ", "align 8"),
-    ("%x = add i64 1, 2, !dbg ", "7"),
-    ("%x = add i64 1, 2, !dbg", ""),
-    ("%x = add i64 1, 2, !dbg !7 ", "!7"),
-    ("%x = add i64 1, 2, !dbg !7,", ""),
-    ("ret i1 ", "2"),
-    ("ret i1 ", "-2"),
-    ("ret i8 ", "256"),
-    ("ret i8 ", "-129"),
-    ("ret i16 ", "65536"),
-    ("ret i16 ", "-32769"),
-    ("ret i32 ", "4294967296"),
-    ("ret i32 ", "-2147483649"),
-    ("ret i64 ", "18446744073709551616"),
-    ("ret i64 ", "-9223372036854775809"),
-    ("ret i64 ", "340282366920938463463374607431768211457"),
-    ("%x = icmp ", "nuw slt i64 1, 2"),
-    ("%x = icmp slt ", "samesign i64 1, 2"),
-    ("%x = icmp eq ", "%T %a, %b"),
-    ("%x = icmp eq ptr ", "0, null"),
-    ("%x = select ", "i8 1, i8 1, i8 2"),
-    ("%x = select i1 true, i8 1, ", "i16 2"),
-    ("%x = select i1 true, i8 1, ", "2"),
-    ("%x = select i1 true, ", "{} %a, {} %b"),
-    ("%x = sext ", "nneg i8 1 to i16"),
-    ("%x = zext ", "nuw i8 1 to i16"),
-    ("%x = ptrtoint ", "nuw ptr %a to i16"),
-    ("%x = zext ", "void %a to i8"),
-    ("%x = zext i8 1 to ", "void"),
-    ("%x = zext {} ", "1 to i8"),
-    ("%x = getelementptr ", "nsw i8, ptr %p, i64 0"),
-    ("%x = getelementptr i8, ptr %p", ""),
-    ("%x = getelementptr i8, ptr %p, ", "!dbg !7"),
-    ("%x = getelementptr i8, ptr %p, ", "ptr %i"),
-    ("%x = getelementptr i8, ptr %p, i64 0, !dbg !7, ", "i64 1"),
-    (
-        "store ptr getelementptr ",
-        "exact (i8, ptr @g, i64 0), ptr %p",
-    ),
-    ("store ptr getelementptr (i8, ptr ", "%g, i64 0), ptr %p"),
-    ("store ptr getelementptr (i8, ptr @g", "), ptr %p"),
-    ("store ptr getelementptr (i8, ptr @g, i64 ", "%i), ptr %p"),
-    ("%x = alloca ", "void"),
-    ("%x = alloca i64, ", "i32 4"),
-    ("%x = alloca i64, align ", "-8"),
-    ("%x = alloca i64, align ", "18446744073709551616"),
-    ("%x = alloca i64, align 8, ", "align 8"),
-    ("%x = alloca i64, !dbg !7, ", "align 8"),
-    ("%x = alloca [", "4294967296 x i8]"),
-    ("%x = alloca [1 x ", "void]"),
-    ("%x = alloca { i8, ", "}"),
-    ("%x = load ", "i1, ptr %p"),
-    ("%x = load ", "%T, ptr %p"),
-    ("%x = load i8, ptr %p ", "acquire"),
-    ("%x = load atomic i8, ptr %p", ", align 1"),
-    ("store ", "i1 true, ptr %p"),
-    ("store ", "volatile i8 1, ptr %p"),
-    ("store i8 1, ptr %p ", "release"),
-    ("store atomic i8 1, ptr %p", ""),
-    ("%x = atomicrmw add ptr %p, ", "ptr null seq_cst"),
-    ("%x = atomicrmw xchg ptr %p, ", "i1 true seq_cst"),
-    ("%x = atomicrmw add ptr %p, i64 1", ", align 8"),
-    ("%x = cmpxchg ptr %p, ", "i1 true, i1 false seq_cst seq_cst"),
-    ("%x = cmpxchg ptr %p, i64 1, ", "i32 2 seq_cst seq_cst"),
-    (
-        "%x = cmpxchg weak ",
-        "weak ptr %p, i64 1, i64 2 seq_cst seq_cst",
-    ),
-    ("%x = cmpxchg ptr %p, i64 1, i64 2 seq_cst", ", align 8"),
-    ("fence ", "relaxed"),
-    ("fence seq_cst, ", "align 8"),
-    ("%x = extractvalue { i64, ", "i8 } %p, 0"),
-    ("%x = extractvalue { i64, i1 } ", "null, 0"),
-    ("%x = extractvalue { i64, i1 } %p, ", "2"),
-    ("%x = extractvalue { i64, i1 } %p, ", "-0"),
-    ("call void ", "@llvm.dbg.value(i64 0)"),
-    ("tail call void ", "@llvm.lifetime.start.p0(i64 8, ptr %a)"),
-    ("tail ", "notail call void @f()"),
-    ("call void ", "\"f\"()"),
-    ("call void ", "noundef @f()"),
-    ("call ", "nounwind void @f()"),
-    ("call align ", "void @f()"),
-    ("call captures(", "address) void @f()"),
-    ("call void @f(", "void %a)"),
-    ("call void @f(i8 ", "fastcc 1)"),
-    ("call void @f(i8 1, ", ")"),
-    ("call void @f() #0 ", "#1"),
-    ("%x = phi i64", ", !dbg !7"),
-    ("%x = phi i64 [ 1, ", "label %a ]"),
-    ("%x = phi i64 [ 1, %a ] ", "[ 2, %b ]"),
-    ("%x = phi ", "{} [ 1, %a ]"),
-    ("br i1 %c, label %a, ", "!dbg !7"),
-    ("br ", "i8 1, label %a, label %b"),
-    ("switch ", "ptr %p, label %a []"),
-    ("switch i8 %a, label %b [ ", "i16 1, label %c ]"),
-    ("switch i8 %a, label %b [ i8 ", "%c, label %d ]"),
-    (
-        "switch i8 %a, label %b [ i8 1, label %c ",
-        ", i8 2, label %c ]",
-    ),
-    ("ret %T ", "1"),
-    ("ret [1 x i8] ", "zeroinitializer"),
-    ("unreachable ", "1"),
-];
-
-/// Lines with brackets in brackets: what stands before them, how each opens and closes, what stands behind them,
-/// and how many there may be. Inside the last one is `i8`.
-const NESTED: &[(&str, &str, &str, &str, usize)] = &[
-    ("%x = alloca ", "[1 x ", "]", "", 64),
-    ("%x = alloca ", "{", "}", ", align 8", 64),
-    ("%x = alloca { {}, ", "[1 x ", "]", "}", 63),
-    ("%x = zext ", "{", "}", " %a to i8", 64),
-    ("%x = zext i8 1 to ", "[1 x ", "]", "", 64),
-    ("%x = getelementptr ", "{", "}", ", ptr %p, i64 0", 64),
-    (
-        "%x = load i8, ptr getelementptr (",
-        "{",
-        "}",
-        ", ptr @g, i64 0)",
-        63,
-    ),
-    (
-        "store ptr getelementptr (",
-        "{",
-        "}",
-        ", ptr @g, i64 0), ptr %p",
-        63,
-    ),
-    ("%x = extractvalue { ", "{", "}", ", i1 } %p, 0", 63),
-    (
-        "%x = phi ptr [ getelementptr (",
-        "[1 x ",
-        "]",
-        ", ptr @g, i64 0), %a ]",
-        62,
-    ),
-    ("call ", "{", "}", " @f(i8 1)", 64),
-    ("call i8 @f(", "[1 x ", "]", " %a, {} %b)", 63),
-    (
-        "call i8 @f(ptr getelementptr (",
-        "{",
-        "}",
-        ", ptr @g, i64 0))",
-        62,
-    ),
-    ("ret ", "{", "}", " %a", 64),
-    ("ret ptr getelementptr (", "{", "}", ", ptr @g, i64 0)", 63),
-];
-
-/// Adds the text.
-fn add(rt: &impl Abort, line: &mut String, text: &str) {
-    line.push_str(text).expect(rt, "no memory for a line");
-}
-
 /// What the text stands for, by tokens of a line of the same places; its names join the tables. `unfit token K` or
 /// `no memory` where it stands for nothing.
-fn told(
+fn shown_by(
     rt: &impl Abort,
     alloc: Global,
     m: &mut Module,
@@ -525,114 +341,23 @@ fn shown_and_dropped(rt: &impl Abort, alloc: Global, inst: Inst) -> String {
 }
 
 /// What the line stands for alone.
-fn told_alone(rt: &impl Abort, alloc: Global, line: &str) -> String {
+fn shown_alone(rt: &impl Abort, alloc: Global, line: &str) -> String {
     let mut m = Module::new(alloc);
     let mut f = Func::new(alloc, Sym(0), Ty::Void);
-    told(rt, alloc, &mut m, &mut f, line, line)
-}
-
-/// That the token is unfit that is the first from the place on, or the end where there is none.
-fn unfit_at(rt: &impl Abort, alloc: Global, line: &str, place: usize) -> String {
-    let bytes = line.as_bytes();
-    assert!(rt; bytes.len() <= 4_194_304);
-    let tokens = lex_line(alloc, bytes).expect(rt, "a line has no tokens");
-    let mut before = 0u32;
-    for token in tokens.iter() {
-        if (token.start as usize) < place {
-            before = before.saturating_add(1);
-        }
-    }
-    format!(in alloc; "unfit token {before}").expect(rt, "no memory for a text")
-}
-
-fn assert_unfit(rt: &impl Abort, alloc: Global, line: &str, place: usize) {
-    let found = told_alone(rt, alloc, line);
-    let want = unfit_at(rt, alloc, line, place);
-    assert!(rt; found.as_str() == want.as_str(), "{found} in {line:?}");
-}
-
-/// The line cut off before a place of a token: it is whole, or it ends too early.
-fn assert_front(rt: &impl Abort, alloc: Global, front: &str) {
-    let found = told_alone(rt, alloc, front);
-    if found.as_str().starts_with("unfit") {
-        let want = unfit_at(rt, alloc, front, front.len());
-        assert!(rt; found.as_str() == want.as_str(), "{found} in {front:?}");
-    }
-}
-
-/// The line with a `*`, which fits nowhere, before a place of a token.
-fn assert_star(rt: &impl Abort, alloc: Global, front: &str, back: &str) {
-    let line = format!(in alloc; "{front}* {back}").expect(rt, "no memory for a line");
-    assert_unfit(rt, alloc, &line, front.len());
-}
-
-/// Each token of the line in turn is missing with all that follows, and has a `*` before it.
-fn assert_each_token(rt: &impl Abort, alloc: Global, line: &str) {
-    let bytes = line.as_bytes();
-    assert!(rt; bytes.len() <= 4_194_304);
-    let tokens = lex_line(alloc, bytes).expect(rt, "a line has no tokens");
-    for token in tokens.iter() {
-        let (front, back) = line
-            .split_at_checked(token.start as usize)
-            .expect(rt, "a token begins inside a character");
-        assert_front(rt, alloc, front);
-        assert_star(rt, alloc, front, back);
-    }
-    let whole = format!(in alloc; "{line} ").expect(rt, "no memory for a line");
-    assert_star(rt, alloc, &whole, "");
+    shown_by(rt, alloc, &mut m, &mut f, line, line)
 }
 
 fn assert_lines(rt: &impl Abort, alloc: Global, lines: &[(&str, &str)]) {
     for (line, want) in lines {
-        let found = told_alone(rt, alloc, line);
+        let found = shown_alone(rt, alloc, line);
         assert!(rt; found.as_str() == *want, "{found} in {line:?}");
-        assert_each_token(rt, alloc, line);
     }
 }
 
 #[test]
-fn each_form_stands_for_its_instruction_and_stops_at_a_token_that_fits_nowhere(rt: HostRuntime) {
+fn each_form_stands_for_its_instruction(rt: HostRuntime) {
     assert_lines(&rt, rt.alloc(), CALCULATIONS);
     assert_lines(&rt, rt.alloc(), ACCESSES_AND_TRANSFERS);
-}
-
-/// The line with so many brackets in brackets.
-fn nested(
-    rt: &impl Abort,
-    alloc: Global,
-    row: &(&str, &str, &str, &str, usize),
-    count: usize,
-) -> String {
-    let (before, open, close, behind, _) = *row;
-    let mut line = String::new(alloc);
-    add(rt, &mut line, before);
-    for _ in 0..count {
-        add(rt, &mut line, open);
-    }
-    add(rt, &mut line, "i8");
-    for _ in 0..count {
-        add(rt, &mut line, close);
-    }
-    add(rt, &mut line, behind);
-    line
-}
-
-#[test]
-fn lines_stop_at_their_first_unfit_token(rt: HostRuntime) {
-    let alloc = rt.alloc();
-    for (front, back) in UNFIT {
-        let line = format!(in alloc; "{front}{back}").expect(&rt, "no memory for a line");
-        assert_unfit(&rt, alloc, &line, front.len());
-    }
-    for row in NESTED {
-        let (before, open, _, _, most) = *row;
-        let line = nested(&rt, alloc, row, most);
-        let found = told_alone(&rt, alloc, &line);
-        assert!(rt; !found.as_str().starts_with("unfit"), "{found} in {line:?}");
-        let line = nested(&rt, alloc, row, most.saturating_add(1));
-        let place = most.saturating_mul(open.len()).saturating_add(before.len());
-        assert_unfit(&rt, alloc, &line, place);
-    }
 }
 
 /// Lines of one function, and what they stand for one after the other: a name keeps the number that its first
@@ -664,11 +389,11 @@ fn names_are_numbered_in_the_order_of_the_lines(rt: HostRuntime) {
     let mut m = Module::new(alloc);
     let mut f = Func::new(alloc, Sym(0), Ty::Void);
     for (line, want) in IN_ONE_FUNCTION {
-        let found = told(&rt, alloc, &mut m, &mut f, line, line);
+        let found = shown_by(&rt, alloc, &mut m, &mut f, line, line);
         assert!(rt; found.as_str() == *want, "{found} in {line:?}");
     }
     assert!(rt; m.sym_count() == 3 && m.type_count() == 3 && f.loc_count() == 5);
-    let found = told(&rt, alloc, &mut m, &mut f, CASES, CASES_IN_LINE);
+    let found = shown_by(&rt, alloc, &mut m, &mut f, CASES, CASES_IN_LINE);
     assert_eq!(rt;
         found.as_str(),
         "switch i8 %1, label %0 [ i8 255, label %1 i8 7, label %2 ]"

@@ -7,13 +7,9 @@ mod errors;
 #[cfg(test)]
 mod instruction_lines;
 #[cfg(test)]
-mod instructions;
-#[cfg(test)]
 mod lines;
 #[cfg(test)]
 mod names;
-#[cfg(test)]
-mod operators;
 #[cfg(test)]
 mod parts;
 #[cfg(test)]
@@ -22,3 +18,5 @@ mod schedules;
 mod shown;
 #[cfg(test)]
 mod top_lines;
+#[cfg(test)]
+mod words;

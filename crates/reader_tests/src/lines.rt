@@ -80,46 +80,6 @@ const TOKENS: [(&[u8], &[(TokKind, u32, &[u8])]); 46] = [
     (b"br:;", &[(Label, 0, b"br:")]),
 ];
 
-/// Lines, and the first column at which no token begins.
-const BAD_COLUMNS: [(&[u8], u32); 36] = [
-    (b"%", 1),
-    (b"% x", 1),
-    (b"%\"x\"", 1),
-    (b"@", 1),
-    (b"@@x", 1),
-    (b"-", 1),
-    (b"--5", 1),
-    (b"5-", 2),
-    (b"a-b", 2),
-    (b".x", 1),
-    (b"$a", 1),
-    (b"%1.5", 3),
-    (b"add x:", 6),
-    (b"x :", 3),
-    (b"a::", 3),
-    (b"5a:", 3),
-    (b":", 1),
-    (b"%a:", 3),
-    (b"c\"x", 2),
-    (b"\"", 1),
-    (b"a \"b", 3),
-    (b"c\"a\"b\"", 6),
-    (b"#", 1),
-    (b"#a", 1),
-    (b"#-1", 1),
-    (b"!", 1),
-    (b"!!0", 1),
-    (b"!{", 1),
-    (b"!\"a\"", 1),
-    (b"+", 1),
-    (b"<", 1),
-    (b"\0", 1),
-    (b"a\0", 2),
-    (b"\xff", 1),
-    (b"a\xff", 2),
-    (b"\t\x0b", 2),
-];
-
 /// The line has these tokens and no others.
 fn assert_tokens(rt: &impl Abort, alloc: Global, line: &[u8], want: &[(TokKind, u32, &[u8])]) {
     assert!(rt; line.len() <= 4_194_304);
@@ -137,19 +97,6 @@ fn assert_tokens(rt: &impl Abort, alloc: Global, line: &[u8], want: &[(TokKind, 
 fn lines_are_cut_into_their_longest_tokens(rt: HostRuntime) {
     for (line, want) in TOKENS {
         assert_tokens(&rt, rt.alloc(), line, want);
-    }
-}
-
-#[test]
-fn the_first_column_is_told_where_no_token_begins(rt: HostRuntime) {
-    for (line, want) in BAD_COLUMNS {
-        assert!(rt; line.len() <= 4_194_304);
-        let error = lex_line(rt.alloc(), line).err();
-        let error = error.expect(&rt, "a bad line has tokens");
-        let text = format!(in rt.alloc(); "{error}").expect(&rt, "no memory for a text");
-        let told = format!(in rt.alloc(); "bad byte at column {want}");
-        let told = told.expect(&rt, "no memory for a text");
-        assert!(rt; text.as_str() == told.as_str(), "{text} in {line:?}");
     }
 }
 

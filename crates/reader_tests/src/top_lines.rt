@@ -1,4 +1,4 @@
-//! Lines outside functions and lines inside them: what they stand for, and the tokens at which they stop to fit.
+//! Lines outside functions and lines inside them: what they stand for.
 use crate::shown::{address, inner_type, number, symbol, word};
 use ir_core::{GlobalVar, Init, Loc, Ty};
 use ir_grammar::{BodyLine, TopLine};
@@ -8,7 +8,7 @@ use ir_parse_parts::LineError;
 use std::alloc::Global;
 use std::process::Abort;
 
-/// Lines outside functions, and what they stand for: names are told by the places where they begin.
+/// Lines outside functions, and what they stand for: names are given by the places where they begin.
 const TOP: &[(&str, &str)] = &[
     (
         "%T = type { i8, [2 x ptr], %U }",
@@ -51,76 +51,6 @@ const TOP: &[(&str, &str)] = &[
         "define i64 @21(i64 %28)(ptr)(i8 %48)",
     ),
     ("define { i8 } @f() {", "define { i8 } @15"),
-];
-
-/// Lines outside functions in two halves: the first token of the second half is the unfit one, or the end where there
-/// is none.
-const TOP_UNFIT: &[(&str, &str)] = &[
-    ("", ""),
-    ("", "x:"),
-    ("", "ret void"),
-    ("", "}"),
-    ("%T ", "type { i8 }"),
-    ("%T = ", "{ i8 }"),
-    ("%T = type ", "i8"),
-    ("%T = type { ", "void }"),
-    ("%T = type { i8 } ", "x"),
-    ("@g = ", "type { i8 }"),
-    ("@g = ", "external global i8"),
-    ("@g = global ", "void zeroinitializer"),
-    ("@g = global i8 ", "256"),
-    ("@g = global i8 ", "%x"),
-    ("@g = global i8 ", ""),
-    ("@g = global ptr ", "true"),
-    ("@g = global [2 x i8] ", "c\"a\""),
-    ("@g = global [1 x i16] ", "c\"a\""),
-    ("@g = global [1 x i8] [i8 1", ""),
-    ("@g = global [1 x i8] [i8 1", "}"),
-    ("@g = global i8 1, ", "section"),
-    ("declare ", "@f()"),
-    ("declare void ", "%f()"),
-    ("declare void @f(", "void)"),
-    ("declare void @f(i8", ""),
-    ("declare void @f(i8 ", "%x)"),
-    ("declare void @f(i8, ", ")"),
-    ("declare void @f() ", "{"),
-    ("define void @f() ", ""),
-    ("define void @f(i8 %x ", "%y) {"),
-    ("define void @f() ", "nounwind {"),
-    ("define void @f() { ", "ret void"),
-];
-
-/// Initialisers inside so many brackets, in two halves as above: 64 brackets may stand open at once.
-const DEEP: &[(usize, &str, &str)] = &[
-    (64, "", "[ptr null"),
-    (64, "null, ptr ", "[i8 1]"),
-    (64, "null, ", "{ i8 } null"),
-    (64, "getelementptr ", "(i8, ptr @h, i64 0)"),
-    (64, "getelementptr inbounds ", "(i8, ptr @h, i64 0)"),
-    (
-        64,
-        "getelementptr nuw inbounds nusw inbounds ",
-        "([1 x i8], ptr @h, i64 0)",
-    ),
-    (64, "getelementptr inbounds ", "%x"),
-    (64, "getelementptr ", "]"),
-    (64, "getelementptr inbounds", ""),
-    (63, "getelementptr (", "[1 x i8], ptr @h, i64 0)"),
-    (
-        63,
-        "getelementptr (i8, ptr @h, i64 0), ptr [ptr getelementptr ",
-        "(i8, ptr @h, i64 0)",
-    ),
-];
-
-/// Initialisers inside so many brackets, closed again.
-const DEEP_WHOLE: &[(usize, &str)] = &[
-    (64, "null, ptr @h"),
-    (
-        63,
-        "[], ptr getelementptr inbounds (i8, ptr @h, i64 0), [1 x i8] c\"a\", ptr getelementptr (%T, ptr @h, i64 0)",
-    ),
-    (62, "getelementptr ([1 x i8], ptr @h, i64 0)"),
 ];
 
 /// Lines inside functions, and what they stand for.
@@ -224,7 +154,7 @@ fn error(rt: &impl Abort, out: &mut String, error: LineError) {
     }
 }
 
-fn told_top(rt: &impl Abort, alloc: Global, line: &str) -> String {
+fn shown_top(rt: &impl Abort, alloc: Global, line: &str) -> String {
     let mut out = String::new(alloc);
     let bytes = line.as_bytes();
     assert!(rt; bytes.len() <= 4_194_304);
@@ -247,7 +177,7 @@ fn body_line(rt: &impl Abort, out: &mut String, line: &BodyLine) {
     }
 }
 
-fn told_body(rt: &impl Abort, alloc: Global, line: &str) -> String {
+fn shown_body(rt: &impl Abort, alloc: Global, line: &str) -> String {
     let mut out = String::new(alloc);
     let bytes = line.as_bytes();
     assert!(rt; bytes.len() <= 4_194_304);
@@ -262,39 +192,12 @@ fn told_body(rt: &impl Abort, alloc: Global, line: &str) -> String {
     out
 }
 
-/// The line of a global whose initialiser begins by so many brackets.
-fn deep(rt: &impl Abort, alloc: Global, brackets: usize, inner: &str) -> String {
-    let mut line = String::new(alloc);
-    word(rt, &mut line, "@g = global ptr ");
-    for _ in 0..brackets {
-        word(rt, &mut line, "[ptr ");
-    }
-    word(rt, &mut line, inner);
-    line
-}
-
-/// How many tokens the front has, as the unfit place.
-fn place_behind(rt: &impl Abort, alloc: Global, front: &str) -> String {
-    let bytes = front.as_bytes();
-    assert!(rt; bytes.len() <= 4_194_304);
-    let tokens = lex_line(alloc, bytes).expect(rt, "a line has no tokens");
-    format!(in alloc; "unfit token {}", tokens.len()).expect(rt, "no memory for a text")
-}
-
 #[test]
-fn lines_outside_functions_stand_for_what_they_say_and_stop_at_their_first_unfit_token(
-    rt: HostRuntime,
-) {
+fn lines_outside_functions_stand_for_what_they_say(rt: HostRuntime) {
     let alloc = rt.alloc();
     for (line, want) in TOP {
-        let found = told_top(&rt, alloc, line);
+        let found = shown_top(&rt, alloc, line);
         assert!(rt; found.as_str() == *want, "{found} in {line:?}");
-    }
-    for (front, back) in TOP_UNFIT {
-        let line = format!(in alloc; "{front}{back}").expect(&rt, "no memory for a line");
-        let found = told_top(&rt, alloc, &line);
-        let want = place_behind(&rt, alloc, front);
-        assert!(rt; found.as_str() == want.as_str(), "{found} in {line:?}");
     }
 }
 
@@ -302,28 +205,7 @@ fn lines_outside_functions_stand_for_what_they_say_and_stop_at_their_first_unfit
 fn lines_inside_functions_are_labels_ends_and_instructions(rt: HostRuntime) {
     let alloc = rt.alloc();
     for (line, want) in BODY {
-        let found = told_body(&rt, alloc, line);
+        let found = shown_body(&rt, alloc, line);
         assert!(rt; found.as_str() == *want, "{found} in {line:?}");
-    }
-}
-
-#[test]
-fn the_bracket_that_is_the_65th_to_stand_open_is_the_unfit_token(rt: HostRuntime) {
-    let alloc = rt.alloc();
-    for (brackets, front, back) in DEEP {
-        let brackets = *brackets;
-        let front = deep(&rt, alloc, brackets, front);
-        let line = format!(in alloc; "{front}{back}").expect(&rt, "no memory for a line");
-        let found = told_top(&rt, alloc, &line);
-        let want = place_behind(&rt, alloc, &front);
-        assert!(rt; found.as_str() == want.as_str(), "{found} in {line:?}");
-    }
-    for (brackets, inner) in DEEP_WHOLE {
-        let mut line = deep(&rt, alloc, *brackets, inner);
-        for _ in 0..*brackets {
-            word(&rt, &mut line, "]");
-        }
-        let found = told_top(&rt, alloc, &line);
-        assert!(rt; found.as_str().starts_with("global"), "{found} in {line:?}");
     }
 }

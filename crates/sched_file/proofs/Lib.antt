@@ -4,3 +4,4 @@ pub mod Digits
 pub mod Readings
 pub mod Meanings
 pub mod SoFar
+pub mod Decided

@@ -50,3 +50,8 @@ pub record UnfitLine (bytes : List ℕ) (number : ℕ) : Type 0 where
   pub lines : List Line
   pub before : AreSchedule earlier args lines
   pub unfit : (args : List ℕ) (lines : List Line) → AreSchedule (earlier ++ line ∷ []) args lines → ⊥
+
+-- a text is a schedule, or has a first unfit line
+pub data Verdict (bytes : List ℕ) : Type 0 where
+  Fits : (args : List ℕ) (lines : List Line) → IsSchedule bytes args lines → Verdict bytes
+  Refused : (number : ℕ) → UnfitLine bytes number → Verdict bytes

@@ -18,5 +18,5 @@ mod parsing;
 
 pub use drawing::Cursor;
 pub use entries::{Event, Line, UpsetSpec};
-pub use laws::{a_schedule_has_no_unfit_line, one_meaning, one_unfit_line};
+pub use laws::{a_schedule_has_no_unfit_line, one_meaning, one_unfit_line, schedule_or_unfit};
 pub use parsing::{SchedError, Schedule, parse_schedule};

@@ -32,7 +32,7 @@ impl From<AllocError> for SchedError {
     }
 }
 
-/// A schedule: its arguments, and an entry for each line that isn't passed over and gives no arguments.
+/// A schedule: its arguments, and an entry for each line that isn't passed over and gives no arguments. It has at most 4,194,304 events.
 #[derive(Drop)]
 pub struct Schedule {
     args: Seq<u64>,
@@ -40,9 +40,10 @@ pub struct Schedule {
 }
 
 impl Model for Schedule {
+    ghost use Rattle.std.specs.Prelude.{◌≤◌, length};
     ghost use Rattle.std.specs.Coded.{codes};
     ghost use Rattle.std.specs.List.{AllByRecursion};
-    ghost use Rattle.sched_file.specs.Events.{HasThread};
+    ghost use Rattle.sched_file.specs.Events.{events_of, HasThread};
     ghost use Rattle.sched_file.specs.Schedule.{ScheduleParts};
 
     ghost Value = { ScheduleParts };
@@ -51,7 +52,7 @@ impl Model for Schedule {
 
     ghost view = { λ s. record { args = s.args; lines = s.lines } };
 
-    ghost invariant = { λ s. AllByRecursion HasThread s.lines };
+    ghost invariant = { λ s. AllByRecursion HasThread s.lines × (length (events_of s.lines) ≤ 4194304) };
 }
 
 impl Schedule {
@@ -71,7 +72,8 @@ impl Schedule {
 
     /// The place before the first event.
     pub fn cursor(&self) -> Cursor<'_>
-        ensures { result ≡ events_of self.now.lines }
+        ensures events { result ≡ events_of self.now.lines }
+        ensures few { length (events_of self.now.lines) ≤ 4194304 }
     {
         Cursor::new(self.lines.items())
     }

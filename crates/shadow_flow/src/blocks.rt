@@ -6,12 +6,9 @@ ghost use Rattle.hard_ir.specs.Hardened.{at_entry, hard_block, hard_func};
 ghost use Rattle.hard_ir.specs.Image.{copy_of, flow, flow_table, phi_image};
 
 use crate::images::{add_image, add_phis};
-use hard_ir::{HBlock, HBlocks, HFuncs, HInst, HInsts, HPhis};
+use hard_ir::{HBlock, HBlocks, HFuncs, HInst, HInsts, HPhis, LIST_LIMIT};
 use ir_core::{Block, Copied, Func, Inst, Loc, Seq, Ty};
 use std::alloc::{AllocError, Global};
-
-// A list that reaches so many items finds no memory.
-const LIST_LIMIT: usize = 4_294_967_295;
 
 // The parameters that are copied at a block: all of them at the entry.
 fn entry_params(f: &Func, n: usize) -> &[(Ty, Loc)]

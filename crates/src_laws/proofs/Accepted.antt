@@ -1,8 +1,8 @@
 -- What holds of the lines of an accepted module.
-use Rattle.std.proofs.Common.{ℕ, zero, suc, ◌≡◌, ◌∙◌, ◌+◌, Bool, true, false, ◌||◌, not, List, [], ◌∷◌, ◌++◌, map, find, slice_get, Option, Some, None, refl, ap, sym, subst, arith, append_assoc, append-nil}
+use Rattle.std.proofs.Common.{ℕ, zero, suc, ◌≡◌, ◌∙◌, ◌+◌, Bool, true, false, ◌||◌, List, [], ◌∷◌, ◌++◌, map, slice_get, Some, None, refl, ap, sym, subst, arith, append_assoc, append-nil}
 use Rattle.std.specs.Prelude.{nat_eq, if◌then◌else◌}
 use Rattle.std.specs.List.{list_any}
-use Rattle.std.specs.Option.{option_map, option_or}
+use Rattle.std.specs.Option.{option_or}
 use Rattle.std.proofs.lemmas.Grind.{flat_map-append}
 use Rattle.std.proofs.lemmas.List.Folds.{list_any-append}
 use Rattle.ir_core.proofs.Lengths.{both_true}
@@ -14,26 +14,18 @@ use Rattle.ir_lines.specs.declared.site.Site.{Site}
 use Rattle.ir_lines.specs.declared.site.Site.TheVariants.{Module}
 use Rattle.ir_lines.specs.declared.site.Named.{Named}
 use Rattle.ir_lines.specs.declared.site.Named.TheVariants as names
-use Rattle.ir_lines.specs.Lines.{Line, TypeLine, GlobalLine, DeclareLine, HeadLine, BlockLine, InstLine, site_of, inst_lines, block_lines, blocks_lines, func_lines, funcs_lines, code_lines, lines_of, first_break}
+use Rattle.ir_lines.specs.Lines.{TypeLine, GlobalLine, DeclareLine, HeadLine, BlockLine, InstLine, site_of, inst_lines, funcs_lines, code_lines}
 use Rattle.ir_names.specs.Names.{same_name, definitions_in, definitions_of, definitions, first_again, duplicate}
 use Rattle.ir_calls.specs.Calls.{calls_keep, inst_keeps}
 use Rattle.ir_types.specs.Types.{types_keep}
-use Rattle.ir_check.specs.declared.fault.Kind.{Kind}
 use Rattle.ir_check.specs.declared.fault.Kind.TheVariants.{BadTerminator, BadCall, TypeMismatch, NoMain, EntryHasPredecessor}
 use Rattle.ir_check.specs.Blocks.{ends_well, begins_well, terminators_keep, entries_keep}
 use Rattle.ir_check.specs.Functions.{has_main}
 use Rattle.ir_check.specs.Faults.{Fault, IsAccepted, fault_at, rule_fault, duplicate_fault, unknown_fault, limit_fault, main_fault, shape_fault, code_fault}
-use Rattle.src_laws.proofs.Members.{IsIn, next-in, in-front, in-back, in-map, in-flat, any-in, passed-not, none-found}
+use Rattle.ir_check.proofs.Members.{IsIn, next-in, in-back, in-map, in-flat, any-in}
+use Rattle.ir_check.proofs.ModuleLines.{neither, no-image, kept, in-inst, in-funcs, in-block, of-code}
 
 -- ---- rules
-
-neither : {A : Type 0} (x y : Option A) → option_or x y ≡ None → (x ≡ None) × (y ≡ None)
-neither None y e = (refl, e)
-neither (Some a) y e = cc
-
-no-image : {A B : Type 0} (f : A → B) (o : Option A) → option_map f o ≡ None → o ≡ None
-no-image f None e = refl
-no-image f (Some a) e = cc
 
 code-keeps : (m : ModuleParts) → IsAccepted m → code_fault m ≡ None
 code-keeps m accepted =
@@ -41,64 +33,13 @@ code-keeps m accepted =
     let known = neither (unknown_fault m) (option_or (limit_fault m) (code_fault m)) named.1 in
     (neither (limit_fault m) (code_fault m) known.1).1
 
-kept : (m : ModuleParts) (kind : Kind) (keeps : Line → Bool) (line : Line) → rule_fault m kind keeps ≡ None → IsIn line (lines_of m)
-    → keeps line ≡ true
-kept m kind keeps line none here =
-    let nothing : find (λ line. not (keeps line)) (lines_of m) ≡ None = no-image site_of _ (no-image _ (first_break keeps (lines_of m)) none) in
-    passed-not (keeps line) (none-found (λ line. not (keeps line)) line (lines_of m) nothing here)
-
--- ---- lines
-
-in-inst : (n : ℕ) (f : FuncParts) (b start i place : ℕ) (inst : Inst) (body : List Inst) → slice_get body i ≡ Some inst → place ≡ start + i
-    → IsIn (InstLine n f b place inst) (inst_lines n f b start body)
-in-inst n f b start i place inst [] at e = absurd cc
-in-inst n f b start zero place inst (x ∷ body) at e =
-    let same : x ≡ inst = cc in
-    let number : start ≡ place = omega arith in
-    (0, ap (λ (y : Inst). Some (InstLine n f b start y)) same ∙ ap (λ (k : ℕ). Some (InstLine n f b k inst)) number)
-in-inst n f b start (suc i) place inst (x ∷ body) at e =
-    next-in (InstLine n f b place inst) (InstLine n f b start x) (inst_lines n f b (start + 1) body) (in-inst n f b (start + 1) i place inst body at (omega arith))
-
-in-blocks : (n : ℕ) (f : FuncParts) (start b place : ℕ) (block : Block) (blocks : List Block) (line : Line) → slice_get blocks b ≡ Some block
-    → place ≡ start + b → IsIn line (block_lines n f place block) → IsIn line (blocks_lines n f start blocks)
-in-blocks n f start b place block [] line at e h = absurd cc
-in-blocks n f start zero place block (x ∷ blocks) line at e h =
-    let same : block ≡ x = cc in
-    let number : place ≡ start = omega arith in
-    let first : IsIn line (block_lines n f start x) = subst (λ (k : ℕ). IsIn line (block_lines n f k x)) number (subst (λ (y : Block). IsIn line (block_lines n f place y)) same h) in
-    in-front line (block_lines n f start x) (blocks_lines n f (start + 1) blocks) first
-in-blocks n f start (suc b) place block (x ∷ blocks) line at e h =
-    in-back line (block_lines n f start x) (blocks_lines n f (start + 1) blocks) (in-blocks n f (start + 1) b place block blocks line at (omega arith) h)
-
-in-funcs : (start n place : ℕ) (f : FuncParts) (funcs : List FuncParts) (line : Line) → slice_get funcs n ≡ Some f → place ≡ start + n
-    → IsIn line (func_lines place f) → IsIn line (funcs_lines start funcs)
-in-funcs start n place f [] line at e h = absurd cc
-in-funcs start zero place f (x ∷ funcs) line at e h =
-    let same : f ≡ x = cc in
-    let number : place ≡ start = omega arith in
-    let first : IsIn line (func_lines start x) = subst (λ (k : ℕ). IsIn line (func_lines k x)) number (subst (λ (y : FuncParts). IsIn line (func_lines place y)) same h) in
-    in-front line (func_lines start x) (funcs_lines (start + 1) funcs) first
-in-funcs start (suc n) place f (x ∷ funcs) line at e h =
-    in-back line (func_lines start x) (funcs_lines (start + 1) funcs) (in-funcs (start + 1) n place f funcs line at (omega arith) h)
-
-in-func : (m : ModuleParts) (n : ℕ) (f : FuncParts) (line : Line) → slice_get m.funcs n ≡ Some f → IsIn line (func_lines n f) → IsIn line (lines_of m)
-in-func m n f line at h =
-    let start : n ≡ 0 + n = omega arith in
-    in-back line (map TypeLine m.types ++ map GlobalLine m.globals) (code_lines m) (in-back line (map DeclareLine m.declares) (funcs_lines 0 m.funcs) (in-funcs 0 n n f m.funcs line at start h))
-
-in-block : (m : ModuleParts) (n b : ℕ) (f : FuncParts) (block : Block) (line : Line) → slice_get m.funcs n ≡ Some f
-    → slice_get f.blocks b ≡ Some block → IsIn line (block_lines n f b block) → IsIn line (lines_of m)
-in-block m n b f block line at there h =
-    let start : b ≡ 0 + b = omega arith in
-    in-func m n f line at (next-in line (HeadLine n f) (blocks_lines n f 0 f.blocks) (in-blocks n f 0 b b block f.blocks line there start h))
-
 -- ---- what is known of blocks, of instructions and of main
 
 pub block-ends : (m : ModuleParts) (n b : ℕ) (f : FuncParts) (block : Block) → IsAccepted m → slice_get m.funcs n ≡ Some f
     → slice_get f.blocks b ≡ Some block → ends_well block.insts ≡ true
 block-ends m n b f block accepted at there =
     let first = neither (rule_fault m BadTerminator terminators_keep) (option_or (rule_fault m BadCall (calls_keep m)) (option_or (rule_fault m TypeMismatch (types_keep m)) (shape_fault m))) (code-keeps m accepted) in
-    let here : IsIn (BlockLine n f b block) (lines_of m) = in-block m n b f block (BlockLine n f b block) at there (0, refl) in
+    let here = of-code m (BlockLine n f b block) (in-block m n b f block (BlockLine n f b block) at there (0, refl)) in
     (both_true (ends_well block.insts) (begins_well block.insts) (kept m BadTerminator terminators_keep (BlockLine n f b block) first.0 here)).0
 
 pub inst-calls : (m : ModuleParts) (n b i : ℕ) (f : FuncParts) (block : Block) (inst : Inst) → IsAccepted m → slice_get m.funcs n ≡ Some f
@@ -108,7 +49,7 @@ inst-calls m n b i f block inst accepted at there stands =
     let second = neither (rule_fault m BadCall (calls_keep m)) (option_or (rule_fault m TypeMismatch (types_keep m)) (shape_fault m)) first.1 in
     let line = InstLine n f b i inst in
     let start : i ≡ 0 + i = omega arith in
-    let here : IsIn line (lines_of m) = in-block m n b f block line at there (next-in line (BlockLine n f b block) (inst_lines n f b 0 block.insts) (in-inst n f b 0 i i inst block.insts stands start)) in
+    let here = of-code m line (in-block m n b f block line at there (next-in line (BlockLine n f b block) (inst_lines n f b 0 block.insts) (in-inst n f b 0 i i inst block.insts stands start))) in
     kept m BadCall (calls_keep m) line second.0 here
 
 pub main-there : (m : ModuleParts) → IsAccepted m → has_main m ≡ true

@@ -25,7 +25,7 @@ use Rattle.inst_meaning.specs.declared.actions.Callee.{Callee}
 use Rattle.inst_meaning.specs.declared.actions.Callee.TheVariants as callees
 use Rattle.inst_meaning.specs.Action.{numbered_function, callee_with, callee_of, callees_of}
 use Rattle.inst_meaning.specs.Operands.{typed_word, words_with, argument_words}
-use Rattle.src_laws.proofs.Members.{position-place, at-position}
+use Rattle.ir_check.proofs.Members.{position-place, at-position}
 use Rattle.src_laws.proofs.Accepted.{declare-apart}
 
 -- ---- the table of callees

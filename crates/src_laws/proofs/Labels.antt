@@ -13,7 +13,7 @@ use Rattle.ir_core.specs.Module.{FuncParts}
 use Rattle.ir_flow.specs.Edges.{labels_of, last_labels, number_of, numbered_from, edge_to, edges_of_block, edges_from, edges_of}
 use Rattle.ir_flow.specs.Paths.{IsEdge}
 use Rattle.ir_flow.specs.Phis.{PhiAt, AllFitting, IsFitting, phi_at, phis_of_body, phis_from, phis_of}
-use Rattle.src_laws.proofs.Members.{IsIn, in-front, in-back, in-filter}
+use Rattle.ir_check.proofs.Members.{IsIn, in-front, in-back, in-filter}
 
 -- ---- the block with a label
 

@@ -2,8 +2,6 @@ pub mod Accepted
 pub mod Callees
 pub mod Ends
 pub mod Labels
-pub mod Locality
-pub mod Members
 pub mod Moves
 pub mod Placed
 pub mod ReadUses

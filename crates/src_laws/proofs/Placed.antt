@@ -16,7 +16,7 @@ use Rattle.ir_check.specs.Faults.{IsAccepted}
 use Rattle.inst_meaning.specs.Phis.{phi_count, phis_of, phi_words, all_assigned}
 use Rattle.src_meaning.specs.State.{params_at}
 use Rattle.src_laws.specs.Assigned.{HasWord}
-use Rattle.src_laws.proofs.Members.{or-later}
+use Rattle.ir_check.proofs.Members.{or-later}
 use Rattle.src_laws.proofs.Words.{Keeps, all-keeps, all-there, params-given, phis-given}
 use Rattle.src_laws.proofs.Ends.{terminator-last, next-stands, first-stands, behind-phis}
 use Rattle.src_laws.proofs.Labels.{is-edge}

@@ -9,7 +9,7 @@ use Rattle.ir_core.specs.Module.{FuncParts}
 use Rattle.ir_flow.specs.Edges.{number_of}
 use Rattle.ir_flow.specs.Paths.{body_of, IsAssigned}
 use Rattle.ir_flow.specs.Uses.{reg_in, regs_in, arms_in, uses_here, uses_at_end, uses_of_arm, uses_of_inst, uses_of_body, uses_from, UseAssigned, AllAssigned}
-use Rattle.src_laws.proofs.Members.{IsIn}
+use Rattle.ir_check.proofs.Members.{IsIn}
 
 abbrev AllHold : {A : Type 0} → (A → Type 0) → List A → Type 0
 AllHold {A} fact xs = (k : ℕ) (x : A) → slice_get xs k ≡ Some x → fact x

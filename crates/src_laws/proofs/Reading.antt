@@ -18,12 +18,12 @@ use Rattle.ir_check.specs.Blocks.{is_terminator}
 use Rattle.ir_check.specs.Faults.{IsAccepted}
 use Rattle.inst_meaning.specs.Phis.{phis_of, phi_count, arm_from}
 use Rattle.src_meaning.specs.declared.state.Frame.{Frame}
-use Rattle.src_meaning.specs.declared.state.CallStack.{CallStack}
-use Rattle.src_meaning.specs.declared.state.Thread.TheVariants.{Running}
+use Rattle.process.specs.declared.state.CallStack.{CallStack}
+use Rattle.process.specs.declared.state.Thread.TheVariants.{Running}
 use Rattle.src_meaning.specs.State.{blocks_at, inst_at}
 use Rattle.src_meaning.specs.Runs.{source}
 use Rattle.src_laws.specs.Assigned.{HaveBlocks, HasWord, AllHaveWords, regs_from, regs_of_phis, regs_at_edge, ReadsWords}
-use Rattle.src_laws.proofs.Members.{IsIn, found-in, of-flat, of-take}
+use Rattle.ir_check.proofs.Members.{IsIn, found-in, of-flat, of-take}
 use Rattle.src_laws.proofs.Ends.{terminator-last}
 use Rattle.src_laws.proofs.ReadUses.{operand-assigned, arm-assigned}
 use Rattle.src_laws.proofs.Labels.{label-of, number-same, is-edge, phi-fits}
@@ -132,13 +132,13 @@ module _ (m : ModuleParts) (frame : Frame) (inst : Inst) (accepted : IsAccepted 
 
 -- ---- in runs
 
-pub stands-next : (m : ModuleParts) (arguments turns : List ℕ) (t : ℕ) (stack : CallStack) → IsAccepted m → HaveBlocks m.funcs
-    → slice_get (source m arguments turns).state.threads t ≡ Some (Running stack) → is_some (inst_at m stack.frame) ≡ true
+pub stands-next : (m : ModuleParts) (arguments turns : List ℕ) (t : ℕ) (stack : CallStack Frame) → IsAccepted m → HaveBlocks m.funcs
+    → slice_get (source m arguments turns).state.process.threads t ≡ Some (Running stack) → is_some (inst_at m stack.frame) ≡ true
 stands-next m arguments turns t stack accepted blocks e =
     let good : IsGood m stack.frame = (source-sound m arguments turns accepted t (Running stack) e).0 in
     ap is_some (at-place m stack.frame good) ∙ good.here (blocks stack.frame.function good.f good.stands)
 
-pub reads-next : (m : ModuleParts) (arguments turns : List ℕ) (t : ℕ) (stack : CallStack) (inst : Inst) → IsAccepted m
-    → slice_get (source m arguments turns).state.threads t ≡ Some (Running stack) → inst_at m stack.frame ≡ Some inst → ReadsWords m stack.frame inst
+pub reads-next : (m : ModuleParts) (arguments turns : List ℕ) (t : ℕ) (stack : CallStack Frame) (inst : Inst) → IsAccepted m
+    → slice_get (source m arguments turns).state.process.threads t ≡ Some (Running stack) → inst_at m stack.frame ≡ Some inst → ReadsWords m stack.frame inst
 reads-next m arguments turns t stack inst accepted e stands =
     reads-words m stack.frame inst accepted (source-sound m arguments turns accepted t (Running stack) e).0 stands

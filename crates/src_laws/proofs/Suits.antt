@@ -37,7 +37,7 @@ use Rattle.inst_meaning.specs.declared.actions.Action.TheVariants.{Assign, Reser
 use Rattle.inst_meaning.specs.declared.actions.Cause.TheVariants.{Unreachable}
 use Rattle.inst_meaning.specs.Operands.{word_at, typed_word, argument_words}
 use Rattle.inst_meaning.specs.Action.{on_word, on_width, operated, inner_pointer, returning, case_of, asked, function_of, named_function, creating, asking, outside, entering, calling, callees_of, action_of, destination}
-use Rattle.src_laws.proofs.Members.{IsIn, next-in}
+use Rattle.ir_check.proofs.Members.{IsIn, next-in}
 use Rattle.src_laws.proofs.Callees.{Enters, defined-told, outside-told, argument-count, call-enters, start-enters}
 
 -- an instruction follows, and what it assigns takes its result

@@ -1,7 +1,7 @@
--- What steps of the source that do nothing leave, and what comes behind an end.
+-- What steps of the source that do nothing leave, and what comes after an end.
 use Rattle.std.specs.Prelude.{ℕ, ◌≡◌, true}
-use Rattle.src_meaning.specs.declared.state.Step.{Step}
-use Rattle.src_meaning.specs.declared.state.Step.TheVariants.{Went, Waits, Idle, Undefined, Ended}
+use Rattle.process.specs.declared.state.Step.{Step}
+use Rattle.process.specs.declared.state.Step.TheVariants.{Went, Waits, Idle, Undefined, Ended}
 use Rattle.src_meaning.specs.State.{State}
 
 -- the step did nothing

@@ -3,4 +3,4 @@
 
 mod laws;
 
-pub use laws::{actions_are_local, steps_that_do_nothing, what_is_read_is_assigned};
+pub use laws::{steps_that_do_nothing, what_is_read_is_assigned};

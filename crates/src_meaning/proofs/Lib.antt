@@ -1,6 +1,3 @@
-mod Locals
-mod Outsides
 pub mod Params
-pub mod Resumed
 pub mod Tables
 mod Turning

@@ -1,5 +1,3 @@
-pub mod Asking
-pub mod Frames
 pub mod Labels
 pub mod Landing
 pub mod State

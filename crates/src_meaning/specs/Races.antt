@@ -12,10 +12,10 @@ use Rattle.inst_meaning.specs.declared.actions.Cause.{Cause}
 use Rattle.inst_meaning.specs.declared.actions.Access.{Access}
 use Rattle.inst_meaning.specs.Accesses.{access_of, clash}
 use Rattle.src_meaning.specs.declared.state.Frame.{Frame}
-use Rattle.src_meaning.specs.declared.state.Thread.{Thread}
-use Rattle.src_meaning.specs.declared.state.Thread.TheVariants.{Running}
-use Rattle.src_meaning.specs.declared.state.Step.{Step}
-use Rattle.src_meaning.specs.declared.state.Step.TheVariants.{Undefined}
+use Rattle.process.specs.declared.state.Thread.{Thread}
+use Rattle.process.specs.declared.state.Thread.TheVariants.{Running, Exiting, Ended}
+use Rattle.process.specs.declared.state.Step.{Step}
+use Rattle.process.specs.declared.state.Step.TheVariants.{Undefined}
 use Rattle.src_meaning.specs.State.{State, inst_at}
 use Rattle.src_meaning.specs.Step.{action_in}
 use Rattle.src_meaning.specs.Runs.{source}
@@ -27,9 +27,11 @@ abbrev pub access_in : ModuleParts → ℕ → Frame → Option Inst → Option 
 access_in m made frame None = None
 access_in m made frame (Some inst) = access_of made (action_in m frame inst)
 
-abbrev pub access_by : ModuleParts → ℕ → Option Thread → Option Access
+abbrev pub access_by : ModuleParts → ℕ → Option (Thread Frame) → Option Access
 access_by m made (Some (Running stack)) = access_in m made stack.frame (inst_at m stack.frame)
-access_by m made other = None
+access_by m made (Some (Exiting n)) = None
+access_by m made (Some Ended) = None
+access_by m made None = None
 
 abbrev pub unless_over : Bool → Option Access → Option Access
 unless_over true access = None
@@ -37,7 +39,7 @@ unless_over false access = access
 
 -- the next access of a thread
 abbrev pub next_access : ModuleParts → State → ℕ → Option Access
-next_access m s t = unless_over s.ended (access_by m (length s.threads) (slice_get s.threads t))
+next_access m s t = unless_over s.ended (access_by m (length s.process.threads) (slice_get s.process.threads t))
 
 -- ---- races
 
@@ -57,9 +59,9 @@ pairs_of count = flat_map (pairs_from count) (range_with_len 0 count)
 
 -- the first pair of threads that race
 abbrev pub race_of : ModuleParts → State → Option (ℕ × ℕ)
-race_of m s = find (is_race m s) (pairs_of (length s.threads))
+race_of m s = find (is_race m s) (pairs_of (length s.process.threads))
 
--- ---- good programs
+-- ---- programs free of undefined steps and races
 
 abbrev pub NoneUndefined : List Step → Type 0
 NoneUndefined answers = (n : ℕ) (cause : Cause) → slice_get answers n ≡ Some (Undefined cause) → ⊥

@@ -1,9 +1,9 @@
 -- Runs of the source: its steps in the order of a list of turns.
 use Rattle.std.specs.Prelude.{ℕ, List, [], ◌∷◌}
 use Rattle.ir_core.specs.Module.{ModuleParts}
-use Rattle.src_meaning.specs.declared.state.Step.{Step}
-use Rattle.src_meaning.specs.State.{State, opening}
-use Rattle.src_meaning.specs.Step.{step}
+use Rattle.process.specs.declared.state.Step.{Step}
+use Rattle.src_meaning.specs.State.{State}
+use Rattle.src_meaning.specs.Step.{opening, step}
 
 -- the state after the turns, and the answer at each
 pub record Run : Type 0 where

@@ -6,15 +6,14 @@ ghost use Rattle.ir_layout.specs.Memory.{layout_of};
 ghost use Rattle.inst_meaning.specs.Accesses.{IsFitting};
 ghost use Rattle.inst_meaning.specs.Action.{callees_of};
 ghost use Rattle.inst_meaning.specs.Phis.{all_assigned};
-ghost use Rattle.src_meaning.specs.State.{blocks_at, inst_at, params_at, entry_frame, new_thread, main_of};
+ghost use Rattle.src_meaning.specs.State.{blocks_at, inst_at, params_at, entry_frame, main_of};
 ghost use Rattle.src_meaning.specs.Step.{jumped};
 ghost use Rattle.ir_layout.specs.Limits.{name_at};
 ghost use Rattle.ir_check.specs.Functions.{is_main};
 ghost use Rattle.src_meaning.specs.Landing.{landed_at, decoded};
 
+use crate::Frame;
 use crate::labels::Labels;
-use crate::moves::stack_start;
-use crate::{CallStack, Callers, Frame, Thread};
 use inst_meaning::{Action, Callee, Operands, Registers, callees_of, destination, phi_count};
 use ir_check::Accepted;
 use ir_core::{Block, Func, Inst, Loc, Module, Sym, Ty, Width};
@@ -119,7 +118,7 @@ impl<'a> Program<'a> {
     }
 
     /// A function is entered with these words.
-    pub(crate) fn enter(
+    pub(crate) fn entered(
         &self,
         alloc: Global,
         function: usize,
@@ -186,26 +185,6 @@ impl<'a> Program<'a> {
     {
         let m = self.accepted.module();
         m.funcs().iter().position(|f| is_main(m, f)).unwrap_or(0)
-    }
-
-    /// A new thread in a function.
-    pub(crate) fn start(
-        &self,
-        alloc: Global,
-        t: u32,
-        function: usize,
-        words: &[u64],
-    ) -> Result<Thread, AllocError>
-        requires { t < 64 }
-        ensures { IfOk result (λ thread. thread ≡ new_thread self.now t function words.now) }
-    {
-        let mark = stack_start(t);
-        let frame = self.enter(alloc, function, words, mark)?;
-        Ok(Thread::Running(CallStack {
-            mark,
-            frame,
-            callers: Callers::new(alloc),
-        }))
     }
 }
 

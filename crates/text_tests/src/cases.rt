@@ -1,25 +1,15 @@
 //! Tables of texts, with answers worked out by hand. In a table each case is a line `== NAME`, the lines of its text, and a
 //! line `-- WANTED`, where what is wanted may go on over lines.
-use crate::checked::verdict;
-use crate::flows::{told_edges, told_flow};
-use crate::hardened::{Columns, told_hardened};
-use crate::laid::{Measured, told_known, told_layout};
+use crate::flows::edges_of;
+use crate::hardened::{Columns, hardened_lines};
 use std::alloc::Global;
 use std::process::Abort;
 
 /// What is asked of a text.
 #[derive(Clone, Copy)]
 pub enum Asked {
-    /// Whether its module is accepted, or its first fault.
-    Verdict,
     /// The edges and the loop heads of its first function.
     Edges,
-    /// The first fault of flow of its first function.
-    Flow,
-    /// Whether the names of its types are known.
-    Known,
-    /// Sizes, addresses or offsets.
-    Measured(Measured),
     /// The hardened module by these columns.
     Hardened(Columns),
 }
@@ -27,12 +17,8 @@ pub enum Asked {
 /// The answer for a text.
 fn answer(rt: &impl Abort, alloc: Global, text: &str, asked: Asked) -> String {
     match asked {
-        Asked::Verdict => verdict(rt, alloc, text),
-        Asked::Edges => told_edges(rt, alloc, text),
-        Asked::Flow => told_flow(rt, alloc, text),
-        Asked::Known => told_known(rt, alloc, text),
-        Asked::Measured(what) => told_layout(rt, alloc, text, what),
-        Asked::Hardened(columns) => told_hardened(rt, alloc, text, columns),
+        Asked::Edges => edges_of(rt, alloc, text),
+        Asked::Hardened(columns) => hardened_lines(rt, alloc, text, columns),
     }
 }
 

@@ -1,11 +1,10 @@
-//! Control flow: edges, loop heads, what is assigned on every path, and the first fault of phis and uses.
+//! Control flow: edges, loop heads, and what is assigned on every path. Faults of flow are in `tests/check/flow.txt`.
 use crate::cases::{Asked, compare};
-use crate::told::module_of;
+use crate::parsed::module_of;
 use ir_core::Func;
-use ir_flow::{Edges, FlowError, assigned_at, edges, flow_check, loop_heads};
+use ir_flow::{Edges, assigned_at, edges, loop_heads};
 use std::alloc::{AllocError, Global};
 use std::process::Abort;
-use std::str;
 
 /// The first function of a module.
 fn first<'a>(rt: &impl Abort, funcs: &'a [Func]) -> &'a Func {
@@ -34,7 +33,7 @@ fn edges_text(alloc: Global, e: &Edges) -> Result<String, AllocError> {
 }
 
 /// The edges and the loop heads of a text's first function.
-pub fn told_edges(rt: &impl Abort, alloc: Global, text: &str) -> String {
+pub fn edges_of(rt: &impl Abort, alloc: Global, text: &str) -> String {
     let m = module_of(rt, alloc, text);
     let e = edges(alloc, first(rt, m.funcs())).expect(rt, "no memory for edges");
     drop(m);
@@ -194,97 +193,4 @@ fn registers_are_assigned_on_every_path_or_not(rt: HostRuntime) {
         assert!(rt; found == *wanted, "{name}");
     }
     drop(m);
-}
-
-/// What is told of a fault of flow.
-fn fault_text(
-    rt: &impl Abort,
-    alloc: Global,
-    f: &Func,
-    error: &FlowError,
-) -> Result<String, AllocError> {
-    match error {
-        FlowError::PhiMismatch { block, inst } => { format!(in alloc; "phi {block} {inst}") }
-        FlowError::UseBeforeDef { block, inst, reg } => {
-            assert!(rt; reg.0 < f.loc_count());
-            let name = str::from_utf8(f.loc_name(*reg)).unwrap_or("no UTF-8");
-            format!(in alloc; "use {block} {inst} {name}")
-        }
-        FlowError::NoMemory => String::from_str(alloc, "no memory"),
-    }
-}
-
-/// The first fault of flow of a text's first function, or that it has none.
-pub fn told_flow(rt: &impl Abort, alloc: Global, text: &str) -> String {
-    let m = module_of(rt, alloc, text);
-    let f = first(rt, m.funcs());
-    let told = match flow_check(alloc, f) {
-        Ok(()) => String::from_str(alloc, "none"),
-        Err(error) => fault_text(rt, alloc, f, &error),
-    };
-    drop(m);
-    told.expect(rt, "no memory for a text")
-}
-
-/// Functions, and their first faults of flow.
-const FLOWS: &str = "
-== a phi uses what its label's block assigns, and itself at later turns
-define void @f(i1 %c) {
-  br label %a
-a:
-  %x = phi i32 [ 0, %0 ], [ %y, %a ], [ %y, %a ]
-  %y = add i32 %x, 1
-  br i1 %c, label %a, label %a
-}
--- none
-== the first phi that doesn't fit is told before an earlier use
-define void @f(i1 %c) {
-  %x = add i32 %y, 1
-  %y = add i32 1, 1
-  br label %a
-a:
-  %p = phi i32 [ 0, %0 ], [ 1, %a ]
-  %q = phi i32 [ 0, %a ]
-  br label %a
-}
--- phi 1 1
-== a phi has an arm for a block that leads elsewhere
-define void @f(i1 %c) {
-  br label %b
-a:
-  ret void
-b:
-  %p = phi i32 [ 0, %0 ], [ 1, %a ]
-  ret void
-}
--- phi 2 0
-== the loop's later part assigns what its first part uses
-define void @f(i1 %c) {
-  br label %a
-a:
-  %x = add i32 %y, 1
-  br label %b
-b:
-  %y = add i32 1, 1
-  br i1 %c, label %a, label %d
-d:
-  ret void
-}
--- use 1 0 y
-== the phi has the place of the fault, not its label's block
-define void @f(i1 %c) {
-  br i1 %c, label %a, label %b
-a:
-  %r = add i32 1, 1
-  br label %b
-b:
-  %s = phi i32 [ 0, %a ], [ %r, %0 ]
-  ret void
-}
--- use 2 0 r
-";
-
-#[test]
-fn functions_have_a_first_fault_of_flow_or_none(rt: HostRuntime) {
-    compare(&rt, rt.alloc(), FLOWS, Asked::Flow);
 }

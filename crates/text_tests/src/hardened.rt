@@ -1,7 +1,7 @@
 //! Hardened modules, line by line: of a `Do` its side, its opcode with its flags, its result and whether it retires; of a check and of
 //! a copy its type and its register. What is wanted is worked out by hand from the rows of the image table.
 use crate::cases::{Asked, compare};
-use crate::told::module_of;
+use crate::parsed::module_of;
 use check_insert::checks;
 use hard_ir::{HBlock, HInst, Hardened, When};
 use inst_meaning::destination;
@@ -174,7 +174,7 @@ fn hardened(rt: &impl Abort, alloc: Global, text: &str, columns: Columns) -> Har
 }
 
 /// The lines of the hardened module of a text.
-pub fn told_hardened(rt: &impl Abort, alloc: Global, text: &str, columns: Columns) -> String {
+pub fn hardened_lines(rt: &impl Abort, alloc: Global, text: &str, columns: Columns) -> String {
     let h = hardened(rt, alloc, text, columns);
     let mut out = String::new(alloc);
     let mut n: u32 = 0;

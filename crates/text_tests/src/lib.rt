@@ -1,11 +1,11 @@
-//! Tests of whole texts: what they stand for, and the first line that fits no form; what the checker and the layers below it
-//! tell of their modules, and what they are hardened to. Tables of texts are constants; `cases.rt` says how those of the checker and its layers are written.
+//! Tests of whole texts: the names of modules, edges and paths, and what modules are hardened to. What is refused, and how programs run,
+//! are tables of text in `tests/`; `cases.rt` says how those here are written.
 #![tactic(auto)]
 
 #[cfg(test)]
-mod cases;
+mod accepted;
 #[cfg(test)]
-mod checked;
+mod cases;
 #[cfg(test)]
 mod flows;
 #[cfg(test)]
@@ -15,6 +15,4 @@ mod laid;
 #[cfg(test)]
 mod modules;
 #[cfg(test)]
-mod refusals;
-#[cfg(test)]
-mod told;
+mod parsed;

@@ -1,11 +1,7 @@
 //! Modules of texts, with the numbers of their names.
-use crate::told::{module_of, told};
+use crate::parsed::module_of;
 use ir_core::{Func, Module};
 use std::process::Abort;
-
-/// Two threads that count under a lock, as a compiler of C writes it, with lines left out.
-const COUNT: &str =
-    "; ModuleID = 'count.c'\nsource_filename = \"count.c\"\ntarget triple = \"x86_64-pc-linux-gnu\"\n\n%union.pthread_mutex_t = type { %struct.__pthread_mutex_s }\n%struct.__pthread_mutex_s = type { i32, i32, i32, i32, i32, i16, i16, %struct.__pthread_internal_list }\n%struct.__pthread_internal_list = type { ptr, ptr }\n\n@lock = dso_local global %union.pthread_mutex_t zeroinitializer, align 8\n@count = dso_local global i32 0, align 4\n\n; Function Attrs: noinline nounwind optnone uwtable\ndefine dso_local ptr @work(ptr noundef %0) #0 {\n  %2 = alloca ptr, align 8\n  %3 = alloca i32, align 4\n  store ptr %0, ptr %2, align 8\n  store i32 0, ptr %3, align 4\n  br label %4\n\n4:                                                ; preds = %12, %1\n  %5 = load i32, ptr %3, align 4\n  %6 = icmp slt i32 %5, 10\n  br i1 %6, label %7, label %15\n\n7:                                                ; preds = %4\n  %8 = call i32 @pthread_mutex_lock(ptr noundef @lock) #3\n  %9 = load i32, ptr @count, align 4\n  %10 = add nsw i32 %9, 1\n  store i32 %10, ptr @count, align 4\n  %11 = call i32 @pthread_mutex_unlock(ptr noundef @lock) #3\n  br label %12\n\n12:                                               ; preds = %7\n  %13 = load i32, ptr %3, align 4\n  %14 = add nsw i32 %13, 1\n  store i32 %14, ptr %3, align 4\n  br label %4, !llvm.loop !6\n\n15:                                               ; preds = %4\n  ret ptr null\n}\n\ndeclare i32 @pthread_mutex_lock(ptr noundef) #1\ndeclare i32 @pthread_mutex_unlock(ptr noundef) #1\n\ndefine dso_local i32 @main() #0 {\n  %1 = alloca i32, align 4\n  %2 = alloca i64, align 8\n  %3 = alloca i64, align 8\n  store i32 0, ptr %1, align 4\n  %4 = call i32 @pthread_create(ptr noundef %2, ptr noundef null, ptr noundef @work, ptr noundef null) #3\n  %5 = call i32 @pthread_create(ptr noundef %3, ptr noundef null, ptr noundef @work, ptr noundef null) #3\n  %6 = load i64, ptr %2, align 8\n  %7 = call i32 @pthread_join(i64 noundef %6, ptr noundef null)\n  %8 = load i64, ptr %3, align 8\n  %9 = call i32 @pthread_join(i64 noundef %8, ptr noundef null)\n  %10 = load i32, ptr @count, align 4\n  %11 = sext i32 %10 to i64\n  call void @haft_out(i64 noundef %11)\n  ret i32 0\n}\n\ndeclare i32 @pthread_create(ptr noundef, ptr noundef, ptr noundef, ptr noundef) #1\ndeclare i32 @pthread_join(i64 noundef, ptr noundef) #2\ndeclare void @haft_out(i64 noundef) #2\n\nattributes #0 = { noinline nounwind optnone uwtable \"frame-pointer\"=\"all\" }\n!llvm.module.flags = !{!0}\n!0 = !{i32 1, !\"wchar_size\", i32 4}\n!6 = distinct !{!6, !7}\n!7 = !{!\"llvm.loop.mustprogress\"}\n";
 
 /// Whether the `@` name has the number.
 fn has_sym(rt: &impl Abort, m: &Module, name: &str, number: u32) -> bool {
@@ -23,50 +19,6 @@ fn has_type(rt: &impl Abort, m: &Module, name: &str, number: u32) -> bool {
 fn has_loc(rt: &impl Abort, f: &Func, name: &str, number: u32) -> bool {
     let at = f.find_loc(name.as_bytes()).expect(rt, "no such name");
     at.0 == number
-}
-
-#[test]
-fn a_file_of_a_compiler_is_read_whole(rt: HostRuntime) {
-    let found = told(&rt, rt.alloc(), COUNT);
-    assert!(rt; found.as_str() == "3 2 5 2 6 33", "{found}");
-    let m = module_of(&rt, rt.alloc(), COUNT);
-    for (name, number) in [
-        ("lock", 0),
-        ("count", 1),
-        ("pthread_mutex_lock", 2),
-        ("pthread_create", 4),
-        ("haft_out", 6),
-        ("work", 7),
-        ("main", 8),
-    ] {
-        assert!(rt; has_sym(&rt, &m, name, number), "{name}");
-    }
-    for (name, number) in [
-        ("union.pthread_mutex_t", 0),
-        ("struct.__pthread_mutex_s", 1),
-        ("struct.__pthread_internal_list", 2),
-    ] {
-        assert!(rt; has_type(&rt, &m, name, number), "{name}");
-    }
-    match m.funcs() {
-        [work, main] => {
-            assert!(rt; work.sym().0 == 7 && main.sym().0 == 8);
-            for (name, number) in [
-                ("0", 0),
-                ("1", 1),
-                ("2", 2),
-                ("3", 3),
-                ("4", 4),
-                ("12", 12),
-                ("15", 15),
-            ] {
-                assert!(rt; has_loc(&rt, work, name, number), "{name}");
-            }
-            assert!(rt; has_loc(&rt, main, "0", 0) && has_loc(&rt, main, "11", 11));
-        }
-        _ => rt.abort(),
-    }
-    drop(m);
 }
 
 /// Functions, and the `%` names that they have, in the order of their numbers.

@@ -1,6 +1,6 @@
 use Rattle.std.proofs.Common.{◌≡◌, ◌+◌, map, drop, length}
 use Rattle.std.specs.List.{sum}
-use Rattle.haft_cli.specs.Command.{block_count}
+use Rattle.haft_cli.specs.Table.{block_count}
 use Rattle.haft_cli.proofs.counts.block_count.Given as goal
 
 abbrev pub invariant-loop-f : goal.invariant-loop-f

@@ -1,6 +1,6 @@
 use Rattle.std.proofs.Common.{◌≡◌, ◌+◌, map, drop}
 use Rattle.std.specs.List.{sum}
-use Rattle.haft_cli.specs.Command.{insts_in, inst_count}
+use Rattle.haft_cli.specs.Table.{insts_in, inst_count}
 use Rattle.haft_cli.proofs.counts.inst_count.Given as goal
 
 abbrev pub invariant-loop-f : goal.invariant-loop-f

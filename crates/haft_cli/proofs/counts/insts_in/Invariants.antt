@@ -1,6 +1,6 @@
 use Rattle.std.proofs.Common.{◌≡◌, ◌+◌, map, drop, length}
 use Rattle.std.specs.List.{sum}
-use Rattle.haft_cli.specs.Command.{insts_in}
+use Rattle.haft_cli.specs.Table.{insts_in}
 use Rattle.haft_cli.proofs.counts.insts_in.Given as goal
 
 abbrev pub invariant-loop-block : goal.invariant-loop-block

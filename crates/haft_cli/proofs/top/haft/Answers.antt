@@ -1,48 +1,42 @@
-use Rattle.std.proofs.Common.{◌≡◌, subst}
-use Rattle.haft_io.specs.declared.device.Which.TheVariants.{First, Second}
-use Rattle.haft_cli.specs.declared.command.Command.{Command}
-use Rattle.haft_cli.specs.declared.command.Command.TheVariants.{Check, Run, Src}
-use Rattle.haft_cli.specs.Command.{check_report, watch_report}
-use Rattle.haft_cli.specs.Work.{IsWork}
-use Rattle.haft_cli.proofs.Files.{same_some}
-use Rattle.haft_cli.proofs.Finishes.{Writes-done, text-done, told_refused, refused-done, report-done}
+use Rattle.std.proofs.Common.{map, string_bytes}
+use Rattle.haft_io.specs.Device.{Rose}
+use Rattle.haft_cli.specs.Command.{command_of}
+use Rattle.haft_cli.specs.Outcome.{files}
+use Rattle.haft_cli.proofs.Ending.{clauses_of, told_of, meant_of}
 use Rattle.haft_cli.proofs.top.haft.Goals as goal
 
-pub returns-in-Ok-clause-exact : goal.returns-in-Ok-clause-exact
-returns-in-Ok-clause-exact g c = λ first second m s words done told_first told_second runs.
-    (Writes-done c.finish.result c.in-Ok.work _ _ _ m s c.finish.ensures.cases done (c.in-Ok.ensures.run_exact first second m s (same_some c.in-Some.command Run _ c.in-Some.ensures words) told_first told_second runs)).written
+pub returns-clause-read_fault : goal.returns-clause-read_fault
+returns-clause-read_fault g c = (clauses_of (command_of (map string_bytes c.args.words.now)) c.in-Some.command
+    (files (g.I.Inputs.left c.args.inputs.now) (g.I.Inputs.faults c.args.inputs.now)) (files (g.I.Inputs.left c.report-report.new.inputs) (g.I.Inputs.faults c.report-report.new.inputs))
+    c.tell.result (g.O.Sink.written c.args.out.now) (g.O.Sink.written c.tell.new.out) (Rose (g.O.Sink.faults c.args.out.now) (g.O.Sink.faults c.tell.new.out)) c.report-report.result
+    c.in-Some.ensures c.report-report.ensures.report c.report-report.ensures.stopped c.tell.ensures.tells).read_fault
 
-pub returns-in-Ok-clause-told : goal.returns-in-Ok-clause-told
-returns-in-Ok-clause-told g c = λ first second m s words done told_first told_second runs.
-    (Writes-done c.finish.result c.in-Ok.work _ _ _ m s c.finish.ensures.cases done (c.in-Ok.ensures.run_exact first second m s (same_some c.in-Some.command Run _ c.in-Some.ensures words) told_first told_second runs)).told
+pub returns-clause-write_fault : goal.returns-clause-write_fault
+returns-clause-write_fault g c = (clauses_of (command_of (map string_bytes c.args.words.now)) c.in-Some.command
+    (files (g.I.Inputs.left c.args.inputs.now) (g.I.Inputs.faults c.args.inputs.now)) (files (g.I.Inputs.left c.report-report.new.inputs) (g.I.Inputs.faults c.report-report.new.inputs))
+    c.tell.result (g.O.Sink.written c.args.out.now) (g.O.Sink.written c.tell.new.out) (Rose (g.O.Sink.faults c.args.out.now) (g.O.Sink.faults c.tell.new.out)) c.report-report.result
+    c.in-Some.ensures c.report-report.ensures.report c.report-report.ensures.stopped c.tell.ensures.tells).write_fault
 
-pub returns-in-Ok-clause-meaning : goal.returns-in-Ok-clause-meaning
-returns-in-Ok-clause-meaning g c = λ first second m s words done told_first told_second runs good.
-    (Writes-done c.finish.result c.in-Ok.work _ _ _ m s c.finish.ensures.cases done (c.in-Ok.ensures.run_exact first second m s (same_some c.in-Some.command Run _ c.in-Some.ensures words) told_first told_second runs)).means good
+pub returns-clause-outcome : goal.returns-clause-outcome
+returns-clause-outcome g c = (clauses_of (command_of (map string_bytes c.args.words.now)) c.in-Some.command
+    (files (g.I.Inputs.left c.args.inputs.now) (g.I.Inputs.faults c.args.inputs.now)) (files (g.I.Inputs.left c.report-report.new.inputs) (g.I.Inputs.faults c.report-report.new.inputs))
+    c.tell.result (g.O.Sink.written c.args.out.now) (g.O.Sink.written c.tell.new.out) (Rose (g.O.Sink.faults c.args.out.now) (g.O.Sink.faults c.tell.new.out)) c.report-report.result
+    c.in-Some.ensures c.report-report.ensures.report c.report-report.ensures.stopped c.tell.ensures.tells).outcome
 
-pub returns-in-Ok-clause-checked : goal.returns-in-Ok-clause-checked
-returns-in-Ok-clause-checked g c = λ first m words done told checks.
-    text-done c.finish.result c.in-Ok.work _ _ _ (check_report m) c.finish.ensures.cases done (λ is_done. (c.in-Ok.ensures.check_exact first m (same_some c.in-Some.command Check _ c.in-Some.ensures words) told checks is_done).text)
+pub returns-clause-exact : goal.returns-clause-exact
+returns-clause-exact g c = (clauses_of (command_of (map string_bytes c.args.words.now)) c.in-Some.command
+    (files (g.I.Inputs.left c.args.inputs.now) (g.I.Inputs.faults c.args.inputs.now)) (files (g.I.Inputs.left c.report-report.new.inputs) (g.I.Inputs.faults c.report-report.new.inputs))
+    c.tell.result (g.O.Sink.written c.args.out.now) (g.O.Sink.written c.tell.new.out) (Rose (g.O.Sink.faults c.args.out.now) (g.O.Sink.faults c.tell.new.out)) c.report-report.result
+    c.in-Some.ensures c.report-report.ensures.report c.report-report.ensures.stopped c.tell.ensures.tells).exact
 
-pub returns-in-Ok-clause-watched : goal.returns-in-Ok-clause-watched
-returns-in-Ok-clause-watched g c = λ first second m s words done told_first told_second watches.
-    text-done c.finish.result c.in-Ok.work _ _ _ (watch_report m s) c.finish.ensures.cases done (λ is_done. (c.in-Ok.ensures.watch_exact first second m s (same_some c.in-Some.command Src _ c.in-Some.ensures words) told_first told_second watches is_done).text)
+pub returns-clause-complete : goal.returns-clause-complete
+returns-clause-complete g c = (clauses_of (command_of (map string_bytes c.args.words.now)) c.in-Some.command
+    (files (g.I.Inputs.left c.args.inputs.now) (g.I.Inputs.faults c.args.inputs.now)) (files (g.I.Inputs.left c.report-report.new.inputs) (g.I.Inputs.faults c.report-report.new.inputs))
+    c.tell.result (g.O.Sink.written c.args.out.now) (g.O.Sink.written c.tell.new.out) (Rose (g.O.Sink.faults c.args.out.now) (g.O.Sink.faults c.tell.new.out)) c.report-report.result
+    c.in-Some.ensures c.report-report.ensures.report c.report-report.ensures.stopped c.tell.ensures.tells).complete
 
-pub returns-in-Ok-clause-refuses : goal.returns-in-Ok-clause-refuses
-returns-in-Ok-clause-refuses g c = λ command first second refusal words told refused calm_files calm.
-    let same : c.in-Some.command ≡ command = same_some c.in-Some.command command _ c.in-Some.ensures words in
-    let work : IsWork command (g.I.Inputs.left c.args.inputs.now First) (g.I.Inputs.left c.args.inputs.now Second) c.in-Ok.work =
-    subst (λ (k : Command). IsWork k (g.I.Inputs.left c.args.inputs.now First) (g.I.Inputs.left c.args.inputs.now Second) c.in-Ok.work) same c.in-Ok.ensures.work in
-    refused-done c.finish.result c.in-Ok.work _ _ _ c.finish.ensures.cases (told_refused command (g.I.Inputs.left c.args.inputs.now) first second c.in-Ok.work refusal told work refused) calm
+pub returns-clause-told : goal.returns-clause-told
+returns-clause-told g c = λ m s run done. told_of (command_of (map string_bytes c.args.words.now)) (g.I.Inputs.left c.args.inputs.now) m s run
 
-pub returns-in-Ok-clause-complete : goal.returns-in-Ok-clause-complete
-returns-in-Ok-clause-complete g c = λ first second m s words told_first told_second first_within second_within runs calm_files calm.
-    report-done c.finish.result c.in-Ok.work _ _ _ c.finish.ensures.cases (c.in-Ok.ensures.run first second m s (same_some c.in-Some.command Run _ c.in-Some.ensures words) told_first told_second first_within second_within runs).done calm
-
-pub returns-in-Ok-clause-watch_complete : goal.returns-in-Ok-clause-watch_complete
-returns-in-Ok-clause-watch_complete g c = λ first second m s words told_first told_second first_within second_within watches calm_files calm.
-    report-done c.finish.result c.in-Ok.work _ _ _ c.finish.ensures.cases (c.in-Ok.ensures.watch first second m s (same_some c.in-Some.command Src _ c.in-Some.ensures words) told_first told_second first_within second_within watches).done calm
-
-pub returns-in-Ok-clause-check_complete : goal.returns-in-Ok-clause-check_complete
-returns-in-Ok-clause-check_complete g c = λ first m words told within checks calm_files calm.
-    report-done c.finish.result c.in-Ok.work _ _ _ c.finish.ensures.cases (c.in-Ok.ensures.check first m (same_some c.in-Some.command Check _ c.in-Some.ensures words) told within checks).done calm
+pub returns-clause-meaning : goal.returns-clause-meaning
+returns-clause-meaning g c = λ m s run done good. meant_of (command_of (map string_bytes c.args.words.now)) (g.I.Inputs.left c.args.inputs.now) m s run good

@@ -9,8 +9,8 @@ abbrev pub invariant-events : goal.invariant-events
 invariant-events l = record {
   same : outcome_on l.watcher (turns_in l.cursor) ≡ watched l.m l.s.args (turns_in (events_of l.s.lines));
   kept : IsKept l.watcher;
-  passed : l.watcher.passed + length l.cursor ≤ length (events_of l.s.lines);
-  log : length l.watcher.log + length l.cursor ≤ length (events_of l.s.lines);
+  passed : l.watcher.passed + length l.cursor ≤ 4194304;
+  log : length l.watcher.log + length l.cursor ≤ 4194304;
 }
 
 abbrev pub decreases-events : goal.decreases-events

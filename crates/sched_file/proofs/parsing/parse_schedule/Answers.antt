@@ -63,7 +63,8 @@ returns-then-not-branch-clause-unfit c number e =
     }
 
 pub invariant_of-result : goal.invariant_of-result
-invariant_of-result c = have_threads _ _ _ c.lines.invariant.holds.means
+invariant_of-result c =
+    (have_threads _ _ _ c.lines.invariant.holds.means, (schedule_so_far c.lines.invariant.done c.lines.draft c.lines.invariant.holds).few)
 
 -- at the end the lines are those so far
 all_done : (bytes rest : List ℕ) (done : List (List ℕ)) → lines_of bytes ≡ done ++ lines_of rest → length rest ≡ 0 → lines_of bytes ≡ done

@@ -1,8 +1,7 @@
 use Rattle.std.proofs.Common.{List, length, ap, ◌∙◌}
 use Rattle.std.specs.List.{list_all}
 use Rattle.ir_layout.specs.declared.spans.Span.{Span}
-use Rattle.ir_layout.specs.Memory.{lies_in, globals_start}
-use Rattle.mem_image.specs.Bytes.{area_size}
+use Rattle.ir_layout.specs.Memory.{area_size, lies_in, globals_start}
 use Rattle.mem_image.specs.Opening.{exactly}
 use Rattle.mem_image.proofs.Lengths.{length_zeroes, length_exactly}
 use Rattle.mem_image.proofs.Placed.{layout_in}

@@ -25,5 +25,5 @@ pub returns-in-Undefined-clause-stops : goal.returns-in-Undefined-clause-stops
 returns-in-Undefined-clause-stops c = λ turns.
     let same = stays-undefined c.args.self.now.source c.stepped.new.source c.args.t.0 c.in_ok-stepped.field-0 c.in-Undefined.cause c.in_ok-stepped.ensures.state c.in_ok-stepped.ensures.answer c.in-Undefined.is in
     let w = c.args.self.now in
-    let here : Sourced → Watched = λ source. record { stop = stops.Undefined w.passed c.args.t c.in-Undefined.cause; outputs = source.state.world.outputs; turns = w.log } in
+    let here : Sourced → Watched = λ source. record { stop = stops.Undefined w.passed c.args.t c.in-Undefined.cause; outputs = source.state.process.world.outputs; turns = w.log } in
     ap here same ∙ undefined-stops w.source.program w.passed w.source.state c.args.t.0 c.in-Undefined.cause w.log turns (sym c.in_ok-stepped.ensures.answer ∙ c.in-Undefined.is)

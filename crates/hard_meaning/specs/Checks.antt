@@ -1,0 +1,35 @@
+-- Checks of registers and of memory.
+--
+-- Choices: a check compares words of its type's width. A check that isn't active takes its turn and reads nothing. One of memory
+-- is an access like any other: it must be valid, its line must have room, and it aborts others that stand in its way before it
+-- compares.
+use Rattle.std.specs.Prelude.{ℕ, ◌%◌, ◌^◌, nat_eq, Bool, true, false, not, List, [], Option, Some, None}
+use Rattle.ir_core.specs.declared.types.Loc.{Loc}
+use Rattle.ir_core.specs.declared.types.Ty.{Ty}
+use Rattle.ir_core.specs.declared.types.Width.{Width}
+use Rattle.ir_core.specs.declared.values.Val.TheVariants as values
+use Rattle.ir_layout.specs.Memory.{layout_of}
+use Rattle.inst_meaning.specs.Operands.{word_at}
+use Rattle.hard_ir.specs.declared.instruction.When.{When}
+use Rattle.hard_ir.specs.declared.instruction.When.TheVariants.{Always, Plain, Tx}
+use Rattle.hard_ir.specs.declared.instruction.HVal.{HVal}
+use Rattle.hard_ir.specs.declared.instruction.HVal.TheVariants as operands
+use Rattle.hard_ir.specs.Facts.{register_bits}
+use Rattle.hard_ir.specs.Hardened.{HardParts}
+use Rattle.hard_machine.specs.declared.state.Frame.{Frame}
+use Rattle.hard_machine.specs.State.{file}
+
+-- whether a check compares, inside a transaction or outside
+abbrev pub is_active : When → Bool → Bool
+is_active Always inside = true
+is_active Plain inside = not inside
+is_active Tx inside = inside
+
+-- two words are the same word of a type
+abbrev pub same_word : Ty → ℕ → ℕ → Bool
+same_word ty a b = nat_eq (a % 2 ^ register_bits ty) (b % 2 ^ register_bits ty)
+
+-- the word of an operand of a check of memory, at a width
+abbrev pub operand_word : HardParts → Frame → Width → HVal → Option ℕ
+operand_word h frame w (operands.Reg reg) = word_at (layout_of h.heads) (file reg.side frame) w (values.Reg reg.loc)
+operand_word h frame w (operands.Const val) = word_at (layout_of h.heads) [] w val

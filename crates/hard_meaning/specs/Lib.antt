@@ -1,0 +1,12 @@
+pub mod Aborts
+pub mod Checks
+pub mod Effects
+pub mod Locks
+pub mod Records
+pub mod Runs
+pub mod Runtime
+pub mod Samples
+pub mod State
+pub mod Strikes
+pub mod Turns
+pub mod Windows

@@ -1,0 +1,1 @@
+//! The hardened machine, as definitions.

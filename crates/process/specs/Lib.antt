@@ -1,0 +1,5 @@
+pub mod Frames
+pub mod Outcome
+pub mod Process
+pub mod State
+pub mod code

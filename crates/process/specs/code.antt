@@ -1,0 +1,3 @@
+-- How the code does what the definitions say.
+pub mod Threads
+pub mod Moves

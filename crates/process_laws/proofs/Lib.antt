@@ -1,0 +1,3 @@
+pub mod Likeness
+pub mod Locality
+pub mod Threads

@@ -1,6 +1,0 @@
--- the state once a thread was added
-use Rattle.src_meaning.proofs.Outsides.{added_state}
-use Rattle.src_meaning.proofs.sources.Source.add_thread.Goals as goal
-
-pub returns-clause-ok : goal.returns-clause-ok
-returns-clause-ok c = added_state _ _ _ _ _ _ _ _ _ _ _ _ c.self.view_is c.requires.runs c.in_ok-push.ensures.items c.index_mut.ensures.value c.in_default.ensures.ok

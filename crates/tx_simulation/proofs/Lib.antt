@@ -1,0 +1,9 @@
+pub mod Again
+pub mod Facts
+pub mod Inner
+pub mod Kept
+pub mod Lines
+pub mod Owners
+pub mod Points
+pub mod Races
+pub mod Walks
