@@ -8,16 +8,19 @@ use Rattle.process.specs.declared.state.Step.TheVariants.{Went, Waits, Idle, Und
 use Rattle.hard_ir.specs.declared.instruction.HInst.{HInst}
 use Rattle.hard_ir.specs.declared.instruction.HInst.TheVariants.{Cut, Begin, End as EndTransaction, Tick, Chk, ChkMem, Mov, Do}
 use Rattle.hard_ir.specs.Hardened.{HardParts}
-use Rattle.hard_machine.specs.declared.outcome.Stop.{Stop}
-use Rattle.hard_machine.specs.declared.outcome.Stop.TheVariants.{End}
-use Rattle.hard_machine.specs.declared.state.Frame.{Frame}
+use Rattle.hard_frames.specs.declared.outcome.Stop.{Stop}
+use Rattle.hard_frames.specs.declared.outcome.Stop.TheVariants.{End}
+use Rattle.hard_frames.specs.declared.state.Frame.{Frame}
 use Rattle.process.specs.declared.state.CallStack.{CallStack}
 use Rattle.process.specs.declared.state.Thread.{Thread}
 use Rattle.process.specs.declared.state.Thread.TheVariants.{Running, Exiting, Ended}
 use Rattle.process.specs.State.{ProcessParts}
 use Rattle.process.specs.Process.{with_thread, acted}
-use Rattle.hard_machine.specs.State.{State, inst_at}
-use Rattle.hard_machine.specs.Step.{frames, retired, settled, action_on, destination_on, is_active, agreed, compared, checked, copied, stepped, fetched, exited, turned, unless_stopped, stopped}
+use Rattle.hard_machine.specs.State.{State}
+use Rattle.hard_frames.specs.Code.{inst_at}
+use Rattle.hard_frames.specs.Frames.{frames, action_on, destination_on}
+use Rattle.hard_machine.specs.Step.{retired, settled, agreed, compared, checked, copied, stepped, fetched, exited, turned, unless_stopped, stopped}
+use Rattle.hard_frames.specs.Orders.{is_active}
 use Rattle.hard_machine.specs.Runs.{happened}
 
 -- there is one turn more at most

@@ -4,9 +4,9 @@ use Rattle.std.specs.List.{flat_map}
 use Rattle.ir_core.specs.declared.types.Tid.{Tid}
 use Rattle.ir_core.specs.declared.values.Out.{Out}
 use Rattle.ir_core.specs.declared.values.Out.TheVariants.{Num, Put}
-use Rattle.hard_machine.specs.declared.outcome.Aborts.{Aborts}
-use Rattle.hard_machine.specs.declared.outcome.Stop.{Stop}
-use Rattle.hard_machine.specs.declared.outcome.Stop.TheVariants.{End, Bound, Fail, Trap}
+use Rattle.hard_frames.specs.declared.outcome.Aborts.{Aborts}
+use Rattle.hard_frames.specs.declared.outcome.Stop.{Stop}
+use Rattle.hard_frames.specs.declared.outcome.Stop.TheVariants.{End, Bound, Fail, Trap}
 use Rattle.hard_machine.specs.declared.outcome.RunResult.{RunResult}
 
 -- `out N` or `put N`

@@ -1,3 +1,1 @@
-mod Phis
 mod Settling
-mod Tables

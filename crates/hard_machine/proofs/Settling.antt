@@ -12,13 +12,14 @@ use Rattle.process.specs.declared.state.Step.{Step}
 use Rattle.process.specs.declared.state.Step.TheVariants.{Undefined, Ended as EndsProgram}
 use Rattle.process.specs.State.{ProcessParts}
 use Rattle.process.specs.Outcome.{Outcome, Goes, Waits, Faults, Ends, answer_of, outcome_of}
-use Rattle.process.specs.Process.{applied, done}
+use Rattle.process.specs.Process.{done}
 use Rattle.process.specs.code.Threads.{acted_by, runs}
 use Rattle.hard_ir.specs.Hardened.{HardParts}
-use Rattle.hard_machine.specs.declared.outcome.Stop.TheVariants.{End, Trap}
-use Rattle.hard_machine.specs.declared.state.Frame.{Frame}
+use Rattle.hard_frames.specs.declared.outcome.Stop.TheVariants.{End, Trap}
+use Rattle.hard_frames.specs.declared.state.Frame.{Frame}
 use Rattle.hard_machine.specs.State.{State, Machined}
-use Rattle.hard_machine.specs.Step.{frames, retired, stopped, settled}
+use Rattle.hard_frames.specs.Frames.{frames}
+use Rattle.hard_machine.specs.Step.{retired, stopped, settled}
 use Rattle.hard_machine.specs.Telling.{place_of, place_at, attempted, carried_by}
 
 -- ---- the machine once an action was tried

@@ -1,6 +1,3 @@
-pub mod Labels
-pub mod Landing
-pub mod Places
 pub mod State
 pub mod Step
 pub mod Telling

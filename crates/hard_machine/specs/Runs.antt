@@ -3,7 +3,7 @@ use Rattle.std.specs.Prelude.{ℕ, Bool, true, false, List, fold, unwrap_or}
 use Rattle.sched_file.specs.Events.{Happening, TurnOf, AbortOf, UpsetBy}
 use Rattle.turn_runs.specs.Runs.{grouped}
 use Rattle.hard_ir.specs.Hardened.{HardParts}
-use Rattle.hard_machine.specs.declared.outcome.Stop.TheVariants.{Bound}
+use Rattle.hard_frames.specs.declared.outcome.Stop.TheVariants.{Bound}
 use Rattle.hard_machine.specs.declared.outcome.RunResult.{RunResult}
 use Rattle.hard_machine.specs.State.{State}
 use Rattle.hard_machine.specs.Step.{opening, turn_of}

@@ -6,17 +6,18 @@ use Rattle.inst_meaning.specs.declared.actions.Action.{Action}
 use Rattle.process.specs.declared.state.Step.{Step}
 use Rattle.process.specs.declared.state.Step.TheVariants.{Went, Waits, Idle, Undefined, Ended as EndsProgram}
 use Rattle.hard_ir.specs.Hardened.{HardParts}
-use Rattle.hard_machine.specs.declared.outcome.Stop.{Stop}
+use Rattle.hard_frames.specs.declared.outcome.Stop.{Stop}
 use Rattle.process.specs.declared.state.Thread.{Thread}
 use Rattle.process.specs.declared.state.Thread.TheVariants.{Running, Exiting, Ended}
 use Rattle.hard_machine.specs.declared.machines.Flow.{Flow}
 use Rattle.hard_machine.specs.declared.machines.Flow.TheVariants.{Going, Stopped}
 use Rattle.process.specs.State.{ProcessParts}
 use Rattle.process.specs.Process.{acted}
-use Rattle.hard_machine.specs.declared.state.Frame.{Frame}
+use Rattle.hard_frames.specs.declared.state.Frame.{Frame}
 use Rattle.hard_machine.specs.State.{State}
-use Rattle.hard_machine.specs.Places.{place_text}
-use Rattle.hard_machine.specs.Step.{frames, retired, settled, turned}
+use Rattle.hard_frames.specs.Places.{place_text}
+use Rattle.hard_frames.specs.Frames.{frames}
+use Rattle.hard_machine.specs.Step.{retired, settled, turned}
 
 -- where a thread stands
 abbrev pub place_of : HardParts → Option (Thread Frame) → List ℕ

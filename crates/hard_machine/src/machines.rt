@@ -2,17 +2,15 @@
 ghost use Rattle.std.specs.Prelude.{◌≡◌, ◌+◌, ◌<◌, ◌^◌, true, length, slice_get, IfOk, OnOk, OnErr};
 ghost use Rattle.inst_meaning.specs.Accesses.{IsFitting};
 ghost use Rattle.sched_file.specs.Shown.{shown};
-ghost use Rattle.hard_machine.specs.declared.outcome.Stop.TheVariants.{End, Fail, Trap};
+ghost use Rattle.hard_frames.specs.declared.outcome.Stop.TheVariants.{End, Fail, Trap};
 ghost use Rattle.process.specs.code.Threads.{CanPassAt, acted_at, runs};
-ghost use Rattle.hard_machine.specs.Step.{frames, opening, retired, stopped, exited, turn_of};
+ghost use Rattle.hard_frames.specs.Frames.{frames};
+ghost use Rattle.hard_machine.specs.Step.{opening, retired, stopped, exited, turn_of};
 ghost use Rattle.hard_machine.specs.Runs.{happened, result_of, is_no_upset};
 ghost use Rattle.hard_machine.specs.Telling.{place_at, comes, untold, attempted, carried_at, turned_at, flow_of};
 
-use crate::frames::Words;
-use crate::orders::Order;
-use crate::places::place_text;
-use crate::programs::Program;
 use crate::{Aborts, Frame, RunResult, Stop};
+use hard_frames::{Order, Program, Words, place_text};
 use hard_ir::Hardened;
 use inst_meaning::Action;
 use ir_core::{Loc, Name, Side, Tid};
@@ -69,11 +67,7 @@ impl<'a> Machine<'a> {
     {
         let program = Program::new(alloc, h)?;
         let image = program.image(alloc)?;
-        let words = Words {
-            one: Vec::new(alloc),
-            masters: Vec::new(alloc),
-            shadows: Vec::new(alloc),
-        };
+        let words = Words::new(alloc);
         let main = program.main();
         let process = Process::new(alloc, &program, image, words, main, args)?;
         Ok(Machine {

@@ -6,8 +6,8 @@ use Rattle.ir_core.specs.declared.values.Side.TheVariants.{M, S}
 use Rattle.ir_core.specs.declared.values.Out.TheVariants.{Num}
 use Rattle.mem_image.specs.Bytes.{Memory}
 use Rattle.op_table.specs.Operators as operators
-use Rattle.hard_machine.specs.declared.outcome.Aborts.{Aborts}
-use Rattle.hard_machine.specs.declared.outcome.Stop.TheVariants.{End, Fail, Bound}
+use Rattle.hard_frames.specs.declared.outcome.Aborts.{Aborts}
+use Rattle.hard_frames.specs.declared.outcome.Stop.TheVariants.{End, Fail, Bound}
 use Rattle.hard_meaning.specs.Records.{Missed, Window, Hit, Undone, Stacked}
 use Rattle.hard_meaning.specs.State.{no_aborts}
 use Rattle.hard_meaning.specs.Samples.{sum, turns, abort_of, upset_of, run_in}

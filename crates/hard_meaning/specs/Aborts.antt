@@ -8,8 +8,8 @@ use Rattle.mem_image.specs.Touches.{Touch}
 use Rattle.line_sets.specs.Sets.{has}
 use Rattle.rtm_core.specs.Footprint.{Footprint, conflicts}
 use Rattle.process.specs.declared.state.Thread.TheVariants.{Running}
-use Rattle.hard_machine.specs.declared.outcome.Aborts.{Aborts}
-use Rattle.hard_meaning.specs.State.{Transaction, Mode, Free, Inside, Worker}
+use Rattle.hard_frames.specs.declared.outcome.Aborts.{Aborts}
+use Rattle.hard_meaning.specs.State.{Mode, Free, Inside, Worker}
 
 -- a check failed (XABORT 1); a transaction ended with a mutex held that it only watches (XABORT 2); another thread's action; a list was
 -- full; anything else

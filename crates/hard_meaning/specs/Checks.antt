@@ -3,8 +3,7 @@
 -- Choices: a check compares words of its type's width. A check that isn't active takes its turn and reads nothing. One of memory
 -- is an access like any other: it must be valid, its line must have room, and it aborts others that stand in its way before it
 -- compares.
-use Rattle.std.specs.Prelude.{ℕ, ◌%◌, ◌^◌, nat_eq, Bool, true, false, not, List, [], Option, Some, None}
-use Rattle.ir_core.specs.declared.types.Loc.{Loc}
+use Rattle.std.specs.Prelude.{ℕ, ◌%◌, ◌^◌, nat_eq, Bool, true, not, [], Option}
 use Rattle.ir_core.specs.declared.types.Ty.{Ty}
 use Rattle.ir_core.specs.declared.types.Width.{Width}
 use Rattle.ir_core.specs.declared.values.Val.TheVariants as values
@@ -16,8 +15,8 @@ use Rattle.hard_ir.specs.declared.instruction.HVal.{HVal}
 use Rattle.hard_ir.specs.declared.instruction.HVal.TheVariants as operands
 use Rattle.hard_ir.specs.Facts.{register_bits}
 use Rattle.hard_ir.specs.Hardened.{HardParts}
-use Rattle.hard_machine.specs.declared.state.Frame.{Frame}
-use Rattle.hard_machine.specs.State.{file}
+use Rattle.hard_frames.specs.declared.state.Frame.{Frame}
+use Rattle.hard_frames.specs.Frames.{file}
 
 -- whether a check compares, inside a transaction or outside
 abbrev pub is_active : When → Bool → Bool

@@ -9,9 +9,9 @@ use Rattle.mem_image.specs.Touches.{Touch, Store, memory_with}
 use Rattle.rtm_core.specs.Footprint.{Footprint, has_room, touched_by}
 use Rattle.process.specs.Outcome.{Effect}
 use Rattle.process.specs.Process.{with_born}
-use Rattle.hard_machine.specs.declared.state.Frame.{Frame}
+use Rattle.hard_frames.specs.declared.state.Frame.{Frame}
 use Rattle.hard_meaning.specs.State.{Transaction, Mode, Free, Inside, Worker, State, new_worker}
-use Rattle.hard_meaning.specs.Aborts.{Overflow, Claim, aborted, spared}
+use Rattle.hard_meaning.specs.Aborts.{Overflow, aborted, spared}
 
 abbrev pub with_worker : State → ℕ → Worker → State
 with_worker s t w = record s { workers = slice_set s.workers t w }

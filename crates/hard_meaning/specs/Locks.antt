@@ -3,7 +3,7 @@
 --
 -- Choices: a transaction watches at most 16 mutexes. It can lock one that has no owner and that it doesn't hold, and unlock one that it holds.
 -- A call that can't be done so ends the transaction, keeps its place, and is done outside at a later turn.
-use Rattle.std.specs.Prelude.{ℕ, Bool, true, false, not, ◌&&◌, nat_eq, List, [], ◌∷◌, Option, Some, None}
+use Rattle.std.specs.Prelude.{ℕ, Bool, not, ◌&&◌, nat_eq, List, ◌∷◌, Option, Some, None}
 use Rattle.std.specs.List.{filter}
 use Rattle.std.specs.Option.{is_none}
 use Rattle.line_sets.specs.Sets.{has, with_member, takes}

@@ -5,7 +5,7 @@
 use Rattle.std.specs.Prelude.{ℕ, suc, Bool, true, false, ◌||◌, List, [], ◌∷◌}
 use Rattle.std.specs.List.{list_any}
 use Rattle.line_sets.specs.Sets.{has}
-use Rattle.hard_meaning.specs.State.{Transaction, Mode, Free, Inside, Worker, Upset, Nowhere, OnAnother, InWindow, Struck, State}
+use Rattle.hard_meaning.specs.State.{Mode, Free, Inside, Worker, Upset, Nowhere, OnAnother, InWindow, Struck, State}
 
 pub data Record : Type 0 where
   Missed : Record

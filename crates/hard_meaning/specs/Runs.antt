@@ -5,9 +5,9 @@ use Rattle.ir_core.specs.declared.values.Out.{Out}
 use Rattle.sched_file.specs.Events.{Happening, TurnOf, AbortOf, UpsetBy}
 use Rattle.turn_runs.specs.Runs.{grouped}
 use Rattle.hard_ir.specs.Hardened.{HardParts}
-use Rattle.hard_machine.specs.declared.outcome.Aborts.{Aborts}
-use Rattle.hard_machine.specs.declared.outcome.Stop.{Stop}
-use Rattle.hard_machine.specs.declared.outcome.Stop.TheVariants.{Bound}
+use Rattle.hard_frames.specs.declared.outcome.Aborts.{Aborts}
+use Rattle.hard_frames.specs.declared.outcome.Stop.{Stop}
+use Rattle.hard_frames.specs.declared.outcome.Stop.TheVariants.{Bound}
 use Rattle.hard_meaning.specs.State.{Worker, State, opening, no_aborts}
 use Rattle.hard_meaning.specs.Aborts.{Other, aborted}
 use Rattle.hard_meaning.specs.Effects.{with_worker}

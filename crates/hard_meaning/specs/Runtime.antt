@@ -4,10 +4,10 @@
 -- Choices, the tool's own: a thread tries a transaction three times, and then goes on without one until it next ends one. A
 -- transaction is cut once it has counted a work of 1000. One definition says what ending a transaction comes to, with the thread as
 -- it is, which an abort needs, and the state that is reached where it commits.
-use Rattle.std.specs.Prelude.{ℕ, suc, ◌+◌, ◌-◌, ◌^◌, min, Bool, true, false, nat_lt, nat_le, List, [], ◌∷◌, ◌++◌, map, replicate, slice_set}
+use Rattle.std.specs.Prelude.{ℕ, ◌+◌, ◌-◌, ◌^◌, min, Bool, true, false, nat_lt, nat_le, List, [], ◌∷◌, ◌++◌, replicate, slice_set}
 use Rattle.rtm_core.specs.Footprint.{nothing_touched, seen_through}
 use Rattle.process.specs.declared.state.CallStack.{CallStack}
-use Rattle.hard_machine.specs.declared.state.Frame.{Frame}
+use Rattle.hard_frames.specs.declared.state.Frame.{Frame}
 use Rattle.hard_meaning.specs.State.{Transaction, Mode, Free, Inside, Worker, State}
 use Rattle.hard_meaning.specs.Aborts.{Locked, aborted}
 use Rattle.hard_meaning.specs.Effects.{with_worker}

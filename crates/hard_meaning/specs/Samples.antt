@@ -1,6 +1,5 @@
 -- Programs whose runs are computed.
 use Rattle.std.specs.Prelude.{ℕ, true, false, List, [], ◌∷◌, replicate, Some, None, codes}
-use Rattle.ir_core.specs.declared.types.Loc.{Loc}
 use Rattle.ir_core.specs.declared.types.Ty.TheVariants as types
 use Rattle.ir_core.specs.declared.types.Width.TheVariants.{W32, W64}
 use Rattle.ir_core.specs.declared.values.Val.TheVariants as values
@@ -17,7 +16,7 @@ use Rattle.hard_ir.specs.declared.instruction.When.TheVariants.{Always}
 use Rattle.hard_ir.specs.declared.instruction.HInst.TheVariants.{Cut, Begin, End, Tick, Chk, Do}
 use Rattle.hard_ir.specs.Image.{no_flags}
 use Rattle.hard_ir.specs.Hardened.{HardParts}
-use Rattle.hard_machine.specs.Step.{frames}
+use Rattle.hard_frames.specs.Frames.{frames}
 use Rattle.hard_meaning.specs.State.{State, new_worker}
 use Rattle.hard_meaning.specs.Runs.{RunParts, run_from, result_of}
 

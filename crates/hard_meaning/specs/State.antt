@@ -15,10 +15,10 @@ use Rattle.process.specs.declared.state.Thread.{Thread}
 use Rattle.process.specs.State.{ProcessParts, new_thread}
 use Rattle.src_meaning.specs.State.{main_of}
 use Rattle.hard_ir.specs.Hardened.{HardParts}
-use Rattle.hard_machine.specs.declared.outcome.Aborts.{Aborts}
-use Rattle.hard_machine.specs.declared.outcome.Stop.{Stop}
-use Rattle.hard_machine.specs.declared.state.Frame.{Frame}
-use Rattle.hard_machine.specs.Step.{frames}
+use Rattle.hard_frames.specs.declared.outcome.Aborts.{Aborts}
+use Rattle.hard_frames.specs.declared.outcome.Stop.{Stop}
+use Rattle.hard_frames.specs.declared.state.Frame.{Frame}
+use Rattle.hard_frames.specs.Frames.{frames}
 
 -- an open transaction: the frames and the stack mark as they stood when it began; what it touched; how many of its turns wait for it to
 -- commit; the numbers of the upsets that struck its thread since; the mutexes that it watches; and of these those that it holds, the last first

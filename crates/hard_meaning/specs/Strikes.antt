@@ -3,8 +3,8 @@
 -- Choices: an upset strikes a thread that was made, a frame of it, by how many were entered after it, and an assigned register, by its name
 -- and side; and it flips bits below the register's width. Else it strikes nothing. A strike that counts leaves its number with what
 -- it struck: with the transaction inside, which forgets it when it aborts, and with the thread outside.
-use Rattle.std.specs.Prelude.{ℕ, zero, suc, ◌%◌, ◌^◌, nat_eq, bit_xor, Bool, true, false, not, ◌&&◌, List, [], ◌∷◌, ◌++◌, length, Option, Some, None, slice_get, slice_set}
-use Rattle.std.specs.List.{position, list_any}
+use Rattle.std.specs.Prelude.{ℕ, zero, suc, ◌%◌, ◌^◌, nat_eq, bit_xor, Bool, true, false, ◌&&◌, List, [], ◌∷◌, ◌++◌, length, Option, Some, None, slice_get, slice_set}
+use Rattle.std.specs.List.{position}
 use Rattle.std.specs.Option.{option_map, option_and_then}
 use Rattle.ir_core.specs.Module.{FuncParts}
 use Rattle.inst_meaning.specs.Registers.{get, put}
@@ -16,9 +16,10 @@ use Rattle.hard_ir.specs.declared.instruction.HBlock.{HBlock}
 use Rattle.hard_ir.specs.declared.instruction.HReg.{HReg}
 use Rattle.hard_ir.specs.Facts.{hard_width}
 use Rattle.hard_ir.specs.Hardened.{HardParts}
-use Rattle.hard_machine.specs.declared.state.Frame.{Frame}
-use Rattle.hard_machine.specs.State.{blocks_at, file, with_file}
-use Rattle.hard_meaning.specs.State.{Transaction, Mode, Free, Inside, Worker, Upset, Nowhere, OnAnother, InWindow, Struck, State, is_inside}
+use Rattle.hard_frames.specs.declared.state.Frame.{Frame}
+use Rattle.hard_frames.specs.Code.{blocks_at}
+use Rattle.hard_frames.specs.Frames.{file, with_file}
+use Rattle.hard_meaning.specs.State.{Mode, Free, Inside, Worker, Upset, Nowhere, OnAnother, InWindow, Struck, State, is_inside}
 use Rattle.hard_meaning.specs.Effects.{with_worker}
 use Rattle.hard_meaning.specs.Records.{some_stands, records}
 use Rattle.hard_meaning.specs.Windows.{in_window, is_edge_checked}

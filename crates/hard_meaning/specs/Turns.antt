@@ -5,14 +5,13 @@
 -- A check that fails, and an undefined action, abort a thread inside, and stop the machine where the thread is outside. A call that must
 -- wait changes nothing and keeps its place. An external inside, which only a changed text has, is done as outside but for mutexes;
 -- what it stores goes through the transaction. A thread whose function has returned ends its transaction and then itself, in one turn.
-use Rattle.std.specs.Prelude.{ℕ, suc, zero, ◌%◌, ◌^◌, nat_eq, Bool, true, false, List, [], ◌∷◌, ◌++◌, map, Option, Some, None, slice_get, slice_set}
+use Rattle.std.specs.Prelude.{ℕ, suc, zero, ◌%◌, ◌^◌, nat_eq, Bool, true, false, [], ◌∷◌, ◌++◌, map, Option, Some, None, slice_get, slice_set}
 use Rattle.ir_core.specs.declared.types.Loc.{Loc}
 use Rattle.ir_core.specs.declared.types.Ty.{Ty}
 use Rattle.ir_core.specs.declared.types.Width.{Width}
 use Rattle.ir_core.specs.declared.types.Width.TheVariants.{W64}
 use Rattle.ir_core.specs.declared.values.Side.{Side}
 use Rattle.ir_core.specs.declared.values.Side.TheVariants.{S}
-use Rattle.ir_core.specs.declared.instruction.Inst.{Inst}
 use Rattle.ir_layout.specs.Memory.{is_valid}
 use Rattle.mem_image.specs.Bytes.{peek}
 use Rattle.mem_image.specs.Touches.{Touch}
@@ -24,18 +23,18 @@ use Rattle.inst_meaning.specs.Registers.{get}
 use Rattle.process.specs.declared.state.CallStack.{CallStack}
 use Rattle.process.specs.declared.state.Thread.{Thread}
 use Rattle.process.specs.declared.state.Thread.TheVariants.{Running, Exiting, Ended}
-use Rattle.process.specs.Outcome.{Effect, Outcome, Goes, Waits, Faults, Ends, touch_at, outcome_of, effect_of_call}
+use Rattle.process.specs.Outcome.{Outcome, Goes, Waits, Faults, Ends, touch_at, outcome_of, effect_of_call}
 use Rattle.process.specs.State.{in_frame}
 use Rattle.hard_ir.specs.declared.instruction.HVal.{HVal}
 use Rattle.hard_ir.specs.declared.instruction.HInst.{HInst}
 use Rattle.hard_ir.specs.declared.instruction.HInst.TheVariants.{Cut, Begin, End as EndTransaction, Tick, Chk, ChkMem, Mov, Do}
 use Rattle.hard_ir.specs.Hardened.{HardParts}
-use Rattle.hard_machine.specs.declared.outcome.Stop.{Stop}
-use Rattle.hard_machine.specs.declared.outcome.Stop.TheVariants.{End, Fail, Trap}
-use Rattle.hard_machine.specs.declared.state.Frame.{Frame}
-use Rattle.hard_machine.specs.State.{inst_at}
-use Rattle.hard_machine.specs.Step.{frames, passed, resulted, action_on, destination_on}
-use Rattle.hard_machine.specs.Places.{place_text}
+use Rattle.hard_frames.specs.declared.outcome.Stop.{Stop}
+use Rattle.hard_frames.specs.declared.outcome.Stop.TheVariants.{End, Fail, Trap}
+use Rattle.hard_frames.specs.declared.state.Frame.{Frame}
+use Rattle.hard_frames.specs.Code.{inst_at}
+use Rattle.hard_frames.specs.Frames.{frames, passed, resulted, action_on, destination_on}
+use Rattle.hard_frames.specs.Places.{place_text}
 use Rattle.hard_meaning.specs.State.{Transaction, Mode, Free, Inside, Worker, State, is_inside, seen}
 use Rattle.hard_meaning.specs.Aborts.{Status, Mismatch, Other, aborted, spared}
 use Rattle.hard_meaning.specs.Effects.{with_worker, turns_after, did, where_room, tried}

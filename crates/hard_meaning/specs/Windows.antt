@@ -3,7 +3,7 @@
 -- Choices, the tool's own: windows are told by the hardened text alone: by what stands before the next instruction of a block, the last first,
 -- and by what is left from that instruction on. A second check in between doesn't close a window. A conditional branch whose targets
 -- check the direction that was taken is no effect, since a struck condition is found there.
-use Rattle.std.specs.Prelude.{ℕ, suc, not, nat_eq, ◌&&◌, ◌||◌, Bool, true, false, List, [], ◌∷◌, take, drop, reverse, Option, Some, None, slice_get}
+use Rattle.std.specs.Prelude.{ℕ, not, nat_eq, ◌&&◌, ◌||◌, Bool, true, false, List, [], ◌∷◌, take, drop, reverse, Option, Some, None}
 use Rattle.std.specs.List.{list_any, find}
 use Rattle.std.specs.Option.{option_map_or}
 use Rattle.ir_core.specs.declared.types.Loc.{Loc}
@@ -20,7 +20,6 @@ use Rattle.ir_core.specs.declared.instruction.Inst.{Inst}
 use Rattle.ir_core.specs.declared.instruction.Inst.TheVariants as insts
 use Rattle.ir_flow.specs.Uses.{regs_in}
 use Rattle.inst_meaning.specs.Phis.{arm_from}
-use Rattle.hard_ir.specs.declared.instruction.When.{When}
 use Rattle.hard_ir.specs.declared.instruction.When.TheVariants.{Always, Plain, Tx}
 use Rattle.hard_ir.specs.declared.instruction.HReg.{HReg}
 use Rattle.hard_ir.specs.declared.instruction.HVal.{HVal}

@@ -3,7 +3,7 @@ use Rattle.std.proofs.Common.{ℕ, ◌≡◌, List, [], ◌∷◌, ◌∙◌, �
 use Rattle.mem_image.specs.Bytes.{Memory}
 use Rattle.inst_meaning.specs.World.{opening_world}
 use Rattle.op_table.specs.Operators.{binary}
-use Rattle.hard_machine.specs.declared.outcome.Stop.TheVariants.{Fail}
+use Rattle.hard_frames.specs.declared.outcome.Stop.TheVariants.{Fail}
 use Rattle.process.specs.declared.state.Thread.TheVariants.{Running}
 use Rattle.hard_machine.specs.State.{State}
 use Rattle.hard_machine.specs.Step.{turn_of}

@@ -30,9 +30,9 @@ use Rattle.hard_laws.proofs.Accepted.{sound, block-line, of-code}
 use Rattle.hard_ir.specs.declared.instruction.HInst.{HInst}
 use Rattle.hard_ir.specs.declared.instruction.HBlock.{HBlock}
 use Rattle.hard_ir.specs.Hardened.{HardParts}
-use Rattle.hard_machine.specs.declared.state.Frame.{Frame}
-use Rattle.hard_machine.specs.State as hard_state
-use Rattle.hard_machine.specs.Step as hard
+use Rattle.hard_frames.specs.declared.state.Frame.{Frame}
+use Rattle.hard_frames.specs.Code as hard_text
+use Rattle.hard_frames.specs.Frames as hard_frame
 use Rattle.hard_simulation.specs.Image.{Image, IsImage, IsBlockImage, copied_at, copies_onto}
 use Rattle.hard_simulation.proofs.Sides.{Sides, On, IsHurt, on-map, hurt-if}
 use Rattle.hard_simulation.proofs.Points.{source_code, hard_code, At, IsFrame}
@@ -103,9 +103,9 @@ module _ (m : ModuleParts) (h : HardParts) (image : IsImage m h) (accepted : IsA
     (shadows : On sides S (Agree b.shadows a.registers)) where
   -- the phis of a side that is known take the words of the source
   side-words : (side : Side) (file : List (Option ℕ)) (from : Loc) (words : List (Loc × ℕ)) (insts : List Inst) (target : HBlock)
-      → hard.phis_on side target ≡ phis_of insts
+      → hard_frame.phis_on side target ≡ phis_of insts
       → Agree file a.registers → phi_words (layout_of m) a.registers from (phis_of insts) ≡ Some words
-      → phi_words (layout_of h.heads) file from (hard.phis_on side target) ≡ Some words
+      → phi_words (layout_of h.heads) file from (hard_frame.phis_on side target) ≡ Some words
   side-words side file from words insts target phis agree taken = rw (phis, heads-layout m h image)
       (phis-same (layout_of m) file a.registers agree from (phis_of insts) ∙ taken)
 
@@ -128,35 +128,35 @@ module _ (m : ModuleParts) (h : HardParts) (image : IsImage m h) (accepted : IsA
         (ap (λ (blocks : List Block). number_of blocks label) (sym blocks-are) ∙ number)
         (ap (λ (blocks : List Block). slice_get blocks 0) (sym blocks-are) ∙ at))
 
-    pub lands : (frame : SourceFrame) → source.jumped m a label ≡ Some frame → IsLanding m h sides frame (hard.jumped h b label)
+    pub lands : (frame : SourceFrame) → source.jumped m a label ≡ Some frame → IsLanding m h sides frame (hard_frame.jumped h b label)
     lands frame e = subst (λ (o : Option Frame). IsLanding m h sides frame o) (sym jumped-is)
-        (by_words (hard.words_on (layout_of h.heads) b from.0.label there-to.0 M) (hard.words_on (layout_of h.heads) b from.0.label there-to.0 S)
+        (by_words (hard_frame.words_on (layout_of h.heads) b from.0.label there-to.0 M) (hard_frame.words_on (layout_of h.heads) b from.0.label there-to.0 S)
         refl refl)
       where
         way : Lands (layout_of m) (source_state.blocks_at m.funcs a.function) a label frame
         way = lands-of (layout_of m) (source_state.blocks_at m.funcs a.function) a label frame e
 
-        from : (from : HBlock) × (slice_get (hard_state.blocks_at h a.function) a.block ≡ Some from) × IsBlockImage (copied_at m a.function a.block)
+        from : (from : HBlock) × (slice_get (hard_text.blocks_at h a.function) a.block ≡ Some from) × IsBlockImage (copied_at m a.function a.block)
             way.from from
         from = hard-block m h image a.function a.block way.from way.leaves
 
-        there-to : (target : HBlock) × (slice_get (hard_state.blocks_at h a.function) way.n ≡ Some target) × IsBlockImage
+        there-to : (target : HBlock) × (slice_get (hard_text.blocks_at h a.function) way.n ≡ Some target) × IsBlockImage
             (copied_at m a.function way.n) way.target target
         there-to = hard-block m h image a.function way.n way.target way.there
 
-        jumped-is : hard.jumped h b label ≡ hard.landed_with b way.n (hard.words_on (layout_of h.heads) b from.0.label there-to.0 M)
-            (hard.words_on (layout_of h.heads) b from.0.label there-to.0 S)
+        jumped-is : hard_frame.jumped h b label ≡ hard_frame.landed_with b way.n (hard_frame.words_on (layout_of h.heads) b from.0.label there-to.0 M)
+            (hard_frame.words_on (layout_of h.heads) b from.0.label there-to.0 S)
         jumped-is = rw (function, block, from.1, number-of-labels m h a.function label image, way.number, there-to.1) refl
 
         words-same : (side : Side) (file : List (Option ℕ)) → Agree file a.registers
-            → phi_words (layout_of h.heads) file from.0.label (hard.phis_on side there-to.0) ≡ Some way.words
+            → phi_words (layout_of h.heads) file from.0.label (hard_frame.phis_on side there-to.0) ≡ Some way.words
         words-same side file agree = rw from.2.label (side-words side file way.from.label way.words way.target.insts there-to.0
-            (ap (λ phis. filter_map (hard.phi_on side) phis) there-to.2.phis
+            (ap (λ phis. filter_map (hard_frame.phi_on side) phis) there-to.2.phis
             ∙ phis-on-side side way.target.insts (begins-well-at m a.function way.n way.target accepted way.there)) agree way.taken)
 
-        landed-frame : (on_masters on_shadows : List (Loc × ℕ)) → hard.words_on (layout_of h.heads) b from.0.label there-to.0 M ≡ Some on_masters
-            → hard.words_on (layout_of h.heads) b from.0.label there-to.0 S ≡ Some on_shadows
-            → IsFrame m h sides (source.landed a way.n way.target way.words) (hard.landed b on_masters on_shadows way.n)
+        landed-frame : (on_masters on_shadows : List (Loc × ℕ)) → hard_frame.words_on (layout_of h.heads) b from.0.label there-to.0 M ≡ Some on_masters
+            → hard_frame.words_on (layout_of h.heads) b from.0.label there-to.0 S ≡ Some on_shadows
+            → IsFrame m h sides (source.landed a way.n way.target way.words) (hard_frame.landed b on_masters on_shadows way.n)
         landed-frame on_masters on_shadows x y = record {
           function = function;
           block = refl;
@@ -177,8 +177,8 @@ module _ (m : ModuleParts) (h : HardParts) (image : IsImage m h) (accepted : IsA
                 subst (λ (given : List (Loc × ℕ)). Agree (all_assigned given file) (all_assigned way.words a.registers)) (sym same)
                 (all_assigned-agrees way.words file a.registers agree)
 
-            code-is : hard_code h (hard.landed b on_masters on_shadows way.n) ≡ there-to.2.rest
-            code-is = ap (λ (n : ℕ). hard_state.list_at (hard_state.blocks_at h n) way.n) function
+            code-is : hard_code h (hard_frame.landed b on_masters on_shadows way.n) ≡ there-to.2.rest
+            code-is = ap (λ (n : ℕ). hard_text.list_at (hard_text.blocks_at h n) way.n) function
                 ∙ ap (λ (o : Option HBlock). option_map_or (λ (block : HBlock). block.list) o []) there-to.1
                 ∙ there-to.2.list ∙ ap (λ (regs : List (Ty × Loc)). copies_onto regs there-to.2.rest)
                 (copied-none way.n way.target way.number way.there)
@@ -187,9 +187,9 @@ module _ (m : ModuleParts) (h : HardParts) (image : IsImage m h) (accepted : IsA
             image-there = rw (ap (λ (o : Option Block). option_map_or (λ (block : Block). block.insts) o []) way.there)
                 (image-behind-phis way.target.insts there-to.2.rest there-to.2.image)
 
-        by_words : (on_masters on_shadows : Option (List (Loc × ℕ))) → hard.words_on (layout_of h.heads) b from.0.label there-to.0 M ≡ on_masters
-            → hard.words_on (layout_of h.heads) b from.0.label there-to.0 S ≡ on_shadows
-            → IsLanding m h sides frame (hard.landed_with b way.n on_masters on_shadows)
+        by_words : (on_masters on_shadows : Option (List (Loc × ℕ))) → hard_frame.words_on (layout_of h.heads) b from.0.label there-to.0 M ≡ on_masters
+            → hard_frame.words_on (layout_of h.heads) b from.0.label there-to.0 S ≡ on_shadows
+            → IsLanding m h sides frame (hard_frame.landed_with b way.n on_masters on_shadows)
         by_words None on_shadows x y = Lost refl (hurt-if sides M _ masters
             (λ (agree : Agree b.masters a.registers). no-words (words-same M b.masters agree) x))
           where
@@ -200,6 +200,6 @@ module _ (m : ModuleParts) (h : HardParts) (image : IsImage m h) (accepted : IsA
           where
             no-words : {o : Option (List (Loc × ℕ))} → o ≡ Some way.words → o ≡ None → ⊥
             no-words known none = cc
-        by_words (Some on_masters) (Some on_shadows) x y = Landed (hard.landed b on_masters on_shadows way.n) refl
-            (subst (λ (at : SourceFrame). IsFrame m h sides at (hard.landed b on_masters on_shadows way.n)) way.is
+        by_words (Some on_masters) (Some on_shadows) x y = Landed (hard_frame.landed b on_masters on_shadows way.n) refl
+            (subst (λ (at : SourceFrame). IsFrame m h sides at (hard_frame.landed b on_masters on_shadows way.n)) way.is
             (landed-frame on_masters on_shadows x y))

@@ -2,7 +2,7 @@
 --
 -- The action is the same as the source's, which can be done; so one lemma speaks of all actions, and none of an instruction. What an action asks
 -- of the two frames is asked here; what it comes to is a law of processes.
-use Rattle.std.proofs.Common.{ℕ, suc, ◌≡◌, ◌∙◌, true, List, [], ◌∷◌, ◌++◌, length, Option, Some, None, slice_get, slice_set, refl, ap, sym, subst}
+use Rattle.std.proofs.Common.{ℕ, ◌≡◌, ◌∙◌, true, List, [], ◌∷◌, ◌++◌, length, Option, Some, None, slice_get, slice_set, refl, ap, sym, subst}
 use Rattle.std.specs.Option.{option_map}
 use Rattle.ir_core.specs.declared.types.Ty.{Ty}
 use Rattle.ir_core.specs.declared.types.Loc.{Loc}
@@ -23,8 +23,8 @@ use Rattle.process.specs.declared.state.Thread.TheVariants.{Running}
 use Rattle.process.specs.declared.state.Step.{Step}
 use Rattle.process.specs.declared.state.Step.TheVariants.{Went, Undefined}
 use Rattle.process.specs.Outcome.{Effect, Goes, outcome_of}
-use Rattle.process.specs.Process.{with_born, applied, done, acted}
-use Rattle.process_laws.proofs.Likeness.{AreOutcomes, BothGo, BothWait, BothFault, BothEnd, AreEffects, AreJumps, Asks, effects-threads, both-moved, over, outcomes-alike, ends-of-threads}
+use Rattle.process.specs.Process.{with_born, applied, acted}
+use Rattle.process_laws.proofs.Likeness.{AreOutcomes, BothGo, BothWait, BothFault, BothEnd, AreEffects, AreJumps, Asks, effects-threads, both-moved, outcomes-alike, ends-of-threads}
 use Rattle.src_meaning.specs.declared.state.Frame.{Frame as SourceFrame}
 use Rattle.src_meaning.specs.State as source_state
 use Rattle.src_meaning.specs.State.{State as SourceState}
@@ -35,8 +35,8 @@ use Rattle.hard_ir.specs.declared.instruction.HInst.{HInst}
 use Rattle.hard_ir.specs.declared.instruction.HInst.TheVariants.{Do}
 use Rattle.hard_ir.specs.Image.{copies}
 use Rattle.hard_ir.specs.Hardened.{HardParts}
-use Rattle.hard_machine.specs.declared.state.Frame.{Frame}
-use Rattle.hard_machine.specs.State as hard_state
+use Rattle.hard_frames.specs.declared.state.Frame.{Frame}
+use Rattle.hard_frames.specs.Frames as hard_frame
 use Rattle.hard_machine.specs.State.{State}
 use Rattle.hard_machine.specs.Step as hard
 use Rattle.hard_simulation.specs.Image.{IsImage, Image}
@@ -71,7 +71,7 @@ pub record IsReady (m : ModuleParts) (h : HardParts) (sides : Sides) (a : Source
 module _ (m : ModuleParts) (h : HardParts) (sides : Sides) (a : SourceFrame) (b : Frame) (inst : Inst) where
   -- it is done, with a result or without one
   pub done-frame : (result : Option (Ty × Loc)) (n : ℕ) → IsReady m h sides a b inst result
-      → IsFrame m h sides (source.resulted (in_source result) n a) (hard.resulted (on_master result) n b)
+      → IsFrame m h sides (source.resulted (in_source result) n a) (hard_frame.resulted (on_master result) n b)
   done-frame None n r = record {
     function = r.function;
     block = r.block;
@@ -90,7 +90,7 @@ module _ (m : ModuleParts) (h : HardParts) (sides : Sides) (a : SourceFrame) (b 
 
   -- it waits for a function that it calls
   pub waiting-frame : (result : Option (Ty × Loc)) → IsReady m h sides a b inst result
-      → IsCaller m h sides (source.suspended (in_source result) a) (hard.suspended (on_master result) b)
+      → IsCaller m h sides (source.suspended (in_source result) a) (hard_frame.suspended (on_master result) b)
   waiting-frame result r = record {
     function = r.function;
     block = r.block;
@@ -134,48 +134,48 @@ module _ (m : ModuleParts) (h : HardParts) (image : IsImage m h) (arguments : Li
       (defined : (cause : Cause) → (source.step m s t).1 ≡ Undefined cause → ⊥) where
     -- what the action comes to in the source, it comes to in the machine
     by-outcome : AreOutcomes (alike m h) sides (outcome_of (source.frames m) s.process t (in_source result) a action)
-        (outcome_of (hard.frames h) now.process t (on_master result) b action)
-        → Holds m h arguments (hard.settled h now t b.frame true (acted (hard.frames h) now.process t (on_master result) b action))
+        (outcome_of (hard_frame.frames h) now.process t (on_master result) b action)
+        → Holds m h arguments (hard.settled h now t b.frame true (acted (hard_frame.frames h) now.process t (on_master result) b action))
     by-outcome (BothGo ex ey e f effects) = rw f (goes ex ey (steps ∙ rw e refl) effects)
     by-outcome (BothWait e f) = rw f (waits m h arguments s threads turns facts t)
     by-outcome (BothFault cause e f) = absurd (defined cause (ap (λ (p : SourceState × Step). p.1) steps ∙ rw e refl))
     by-outcome (BothEnd code e f) = rw f (ends m h arguments s threads turns facts t (record s { ended = true }) code (steps ∙ rw e refl) refl)
 
-    pub acted-kept : Asks (alike m h) (source.frames m) (hard.frames h) sides (in_source result) (on_master result) a.frame b.frame action
-        → Holds m h arguments (hard.settled h now t b.frame true (acted (hard.frames h) now.process t (on_master result) b action))
-    acted-kept asks = by-outcome (outcomes-alike (alike m h) (source.frames m) (hard.frames h) sides (in_source result) (on_master result) a b
+    pub acted-kept : Asks (alike m h) (source.frames m) (hard_frame.frames h) sides (in_source result) (on_master result) a.frame b.frame action
+        → Holds m h arguments (hard.settled h now t b.frame true (acted (hard_frame.frames h) now.process t (on_master result) b action))
+    acted-kept asks = by-outcome (outcomes-alike (alike m h) (source.frames m) (hard_frame.frames h) sides (in_source result) (on_master result) a b
         stack.mark stack.callers s.process threads (ends-of-threads (alike m h) s.process.threads threads facts.each) t action asks)
 
   -- ---- what actions ask
 
   module _ (inst : Inst) (result : Option (Ty × Loc)) (ready : IsReady m h sides a.frame b.frame inst result) where
-    results : (k : ℕ) → IsFrame m h sides (source.resulted (in_source result) k a.frame) (hard.resulted (on_master result) k b.frame)
+    results : (k : ℕ) → IsFrame m h sides (source.resulted (in_source result) k a.frame) (hard_frame.resulted (on_master result) k b.frame)
     results k = done-frame m h sides a.frame b.frame inst result k ready
 
-    advances : result ≡ None → IsFrame m h sides (source.passed a.frame) (hard.passed b.frame)
+    advances : result ≡ None → IsFrame m h sides (source.passed a.frame) (hard_frame.passed b.frame)
     advances none = subst (λ (r : Option (Ty × Loc)). IsFrame m h sides (source.resulted (in_source r) 0 a.frame)
-        (hard.resulted (on_master r) 0 b.frame)) none (results 0)
+        (hard_frame.resulted (on_master r) 0 b.frame)) none (results 0)
 
     enters-alike : (on : Sides) (n : ℕ) (words : List ℕ) → Enters m n (length words) → (mark : ℕ)
-        → IsFrame m h on (source_state.entry_frame m n words mark) (hard_state.entry_frame h n words mark)
+        → IsFrame m h on (source_state.entry_frame m n words mark) (hard_frame.entry_frame h n words mark)
     enters-alike on n words enters mark = entered-frame m h image on n words mark enters
 
     -- it goes along an edge
     jump-kept : (label : Loc) → source.step m s t ≡ source.settled s (acted (source.frames m) s.process t (in_source result) a (Jump label))
         → ((cause : Cause) → (source.step m s t).1 ≡ Undefined cause → ⊥)
-        → ((frame : SourceFrame) → source.jumped m a.frame label ≡ Some frame → IsLanding m h sides frame (hard.jumped h b.frame label))
-        → Holds m h arguments (hard.settled h now t b.frame true (acted (hard.frames h) now.process t (on_master result) b (Jump label)))
+        → ((frame : SourceFrame) → source.jumped m a.frame label ≡ Some frame → IsLanding m h sides frame (hard_frame.jumped h b.frame label))
+        → Holds m h arguments (hard.settled h now t b.frame true (acted (hard_frame.frames h) now.process t (on_master result) b (Jump label)))
     jump-kept label steps defined lands = by_jump (source.jumped m a.frame label) refl
       where
-        by_landing : (frame : SourceFrame) → source.jumped m a.frame label ≡ Some frame → IsLanding m h sides frame (hard.jumped h b.frame label)
-            → Holds m h arguments (hard.settled h now t b.frame true (acted (hard.frames h) now.process t (on_master result) b (Jump label)))
+        by_landing : (frame : SourceFrame) → source.jumped m a.frame label ≡ Some frame → IsLanding m h sides frame (hard_frame.jumped h b.frame label)
+            → Holds m h arguments (hard.settled h now t b.frame true (acted (hard_frame.frames h) now.process t (on_master result) b (Jump label)))
         by_landing frame e (Lost none hurt) = rw none (traps m h arguments s threads turns facts t a b sides unhurt stack at hard_at hurt)
         by_landing frame e (Landed other some is) = acted-kept inst result ready (Jump label) steps defined
-            (subst (λ (o : Option SourceFrame). AreJumps (alike m h) sides o (hard.jumped h b.frame label)) (sym e)
+            (subst (λ (o : Option SourceFrame). AreJumps (alike m h) sides o (hard_frame.jumped h b.frame label)) (sym e)
             (subst (λ (o : Option Frame). AreJumps (alike m h) sides (Some frame) o) (sym some) is))
 
         by_jump : (o : Option SourceFrame) → source.jumped m a.frame label ≡ o
-            → Holds m h arguments (hard.settled h now t b.frame true (acted (hard.frames h) now.process t (on_master result) b (Jump label)))
+            → Holds m h arguments (hard.settled h now t b.frame true (acted (hard_frame.frames h) now.process t (on_master result) b (Jump label)))
         by_jump None e =
             let stays : source.settled s (acted (source.frames m) s.process t (in_source result) a (Jump label)) ≡ (s, Undefined Unreachable) = rw e refl in
             absurd (defined Unreachable (ap (λ (p : SourceState × Step). p.1) (steps ∙ stays)))
@@ -191,11 +191,11 @@ module _ (m : ModuleParts) (h : HardParts) (image : IsImage m h) (arguments : Li
     -- whatever the action, as long as it suits its instruction
     pub suited-kept : destination inst ≡ in_source result
         → ((label : Loc) → JumpsTo inst label → (frame : SourceFrame) → source.jumped m a.frame label ≡ Some frame
-        → IsLanding m h sides frame (hard.jumped h b.frame label))
+        → IsLanding m h sides frame (hard_frame.jumped h b.frame label))
         → (action : Action) → IsSuited m inst action
         → source.step m s t ≡ source.settled s (acted (source.frames m) s.process t (in_source result) a action)
         → ((cause : Cause) → (source.step m s t).1 ≡ Undefined cause → ⊥)
-        → Holds m h arguments (hard.settled h now t b.frame true (acted (hard.frames h) now.process t (on_master result) b action))
+        → Holds m h arguments (hard.settled h now t b.frame true (acted (hard_frame.frames h) now.process t (on_master result) b action))
     suited-kept to lands (Assign n) suits e defined = acted-kept inst result ready (Assign n) e defined results
     suited-kept to lands (Reserve size) suits e defined = acted-kept inst result ready (Reserve size) e defined results
     suited-kept to lands (Read place atomic) suits e defined = acted-kept inst result ready (Read place atomic) e defined results

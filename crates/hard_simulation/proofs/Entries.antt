@@ -18,9 +18,9 @@ use Rattle.src_meaning.specs.Step as source
 use Rattle.hard_ir.specs.declared.instruction.HBlock.{HBlock}
 use Rattle.hard_ir.specs.Image.{copies}
 use Rattle.hard_ir.specs.Hardened.{HardParts}
-use Rattle.hard_machine.specs.declared.state.Frame.{Frame}
-use Rattle.hard_machine.specs.State as hard_state
-use Rattle.hard_machine.specs.Step as hard
+use Rattle.hard_frames.specs.declared.state.Frame.{Frame}
+use Rattle.hard_frames.specs.Code as hard_text
+use Rattle.hard_frames.specs.Frames as hard_frame
 use Rattle.hard_simulation.specs.Image.{Image, IsImage, IsBlockImage, AreBlockImages, copied_at, copies_onto}
 use Rattle.hard_simulation.proofs.Sides.{Sides, on-map, on-pure}
 use Rattle.hard_simulation.proofs.Files.{is_among, one-fresh, one-but, params-but}
@@ -51,26 +51,26 @@ get-drop-none (y ∷ xs) (suc at) e = get-drop-none xs at e
 -- the block of a frame in the hardened module
 pub hard-block : (m : ModuleParts) (h : HardParts) (image : IsImage m h) (n b : ℕ) (block : Block)
     → slice_get (source_state.blocks_at m.funcs n) b ≡ Some block
-    → (hard_block : HBlock) × (slice_get (hard_state.blocks_at h n) b ≡ Some hard_block) × IsBlockImage (copied_at m n b) block hard_block
-hard-block m h image n b block e = by_hard (slice_get (hard_state.blocks_at h n) b) refl
-    (subst (λ (o : Option Block). AreBlockImages (copied_at m n b) o (slice_get (hard_state.blocks_at h n) b)) e (image.blocks n b))
+    → (hard_block : HBlock) × (slice_get (hard_text.blocks_at h n) b ≡ Some hard_block) × IsBlockImage (copied_at m n b) block hard_block
+hard-block m h image n b block e = by_hard (slice_get (hard_text.blocks_at h n) b) refl
+    (subst (λ (o : Option Block). AreBlockImages (copied_at m n b) o (slice_get (hard_text.blocks_at h n) b)) e (image.blocks n b))
   where
-    by_hard : (o : Option HBlock) → slice_get (hard_state.blocks_at h n) b ≡ o
-        → AreBlockImages (copied_at m n b) (Some block) (slice_get (hard_state.blocks_at h n) b)
-        → (hard_block : HBlock) × (slice_get (hard_state.blocks_at h n) b ≡ Some hard_block) × IsBlockImage (copied_at m n b) block hard_block
+    by_hard : (o : Option HBlock) → slice_get (hard_text.blocks_at h n) b ≡ o
+        → AreBlockImages (copied_at m n b) (Some block) (slice_get (hard_text.blocks_at h n) b)
+        → (hard_block : HBlock) × (slice_get (hard_text.blocks_at h n) b ≡ Some hard_block) × IsBlockImage (copied_at m n b) block hard_block
     by_hard None f k = absurd (subst (λ (o : Option HBlock). AreBlockImages (copied_at m n b) (Some block) o) f k)
     by_hard (Some hard_block) f k = (hard_block, f, subst (λ (o : Option HBlock). AreBlockImages (copied_at m n b) (Some block) o) f k)
 
 module _ (m : ModuleParts) (h : HardParts) (image : IsImage m h) (sides : Sides) where
   -- at the entry of a function only the parameters have words, and only the masters
   pub entered-frame : (n : ℕ) (words : List ℕ) (mark : ℕ) → Enters m n (length words)
-      → IsFrame m h sides (source_state.entry_frame m n words mark) (hard_state.entry_frame h n words mark)
+      → IsFrame m h sides (source_state.entry_frame m n words mark) (hard_frame.entry_frame h n words mark)
   entered-frame n words mark enters = record {
     function = refl;
     block = refl;
     mark = refl;
     point = subst (λ (masters : List (Option ℕ)). Stands m sides (source_code m (source_state.entry_frame m n words mark)) registers
-        (hard_code h (hard_state.entry_frame h n words mark)) masters [])
+        (hard_code h (hard_frame.entry_frame h n words mark)) masters [])
         (ap (λ (params : List Loc). all_assigned (zip params words) []) (sym (heads-params m h image n)))
         (by_block (slice_get (source_state.blocks_at m.funcs n) 0) refl);
   }
@@ -89,7 +89,7 @@ module _ (m : ModuleParts) (h : HardParts) (image : IsImage m h) (sides : Sides)
           (params-given enters.f.params words (record { 0 = at }) enters.params e))
 
       by_block : (o : Option Block) → slice_get (source_state.blocks_at m.funcs n) 0 ≡ o
-          → Stands m sides (source_code m (source_state.entry_frame m n words mark)) registers (hard_code h (hard_state.entry_frame h n words mark))
+          → Stands m sides (source_code m (source_state.entry_frame m n words mark)) registers (hard_code h (hard_frame.entry_frame h n words mark))
           registers []
       by_block None e = Nowhere (ap (λ (o : Option Block). option_map_or (λ (block : Block). block.insts) o []) e)
       by_block (Some block) e =
@@ -103,10 +103,10 @@ module _ (m : ModuleParts) (h : HardParts) (image : IsImage m h) (sides : Sides)
           (on-pure sides S _ (rw params-are (params-but enters.f.params words)))
 
   -- a call has come back with a word
-  pub resumed-frame : (a : SourceFrame) (b : Frame) (n : ℕ) → IsCaller m h sides a b → IsFrame m h sides (source.resumed n a) (hard.resumed n b)
+  pub resumed-frame : (a : SourceFrame) (b : Frame) (n : ℕ) → IsCaller m h sides a b → IsFrame m h sides (source.resumed n a) (hard_frame.resumed n b)
   resumed-frame a b n c = by_result c.result refl
     where
-      by_result : (result : Option (Ty × Loc)) → c.result ≡ result → IsFrame m h sides (source.resumed n a) (hard.resumed n b)
+      by_result : (result : Option (Ty × Loc)) → c.result ≡ result → IsFrame m h sides (source.resumed n a) (hard_frame.resumed n b)
       by_result None e =
           let waits : a.waiting ≡ None = c.waits ∙ ap (option_map (λ (reg : Ty × Loc). reg.1)) e in
           let takes : b.waiting ≡ None = c.takes ∙ ap (option_map (λ (reg : Ty × Loc). (M, reg.1))) e in

@@ -12,8 +12,8 @@ use Rattle.src_meaning.specs.State.{State as SourceState}
 use Rattle.src_meaning.specs.Step.{step}
 use Rattle.src_meaning.specs.Runs.{source}
 use Rattle.hard_ir.specs.Hardened.{HardParts}
-use Rattle.hard_machine.specs.declared.outcome.Stop.TheVariants.{End}
-use Rattle.hard_machine.specs.declared.state.Frame.{Frame}
+use Rattle.hard_frames.specs.declared.outcome.Stop.TheVariants.{End}
+use Rattle.hard_frames.specs.declared.state.Frame.{Frame}
 use Rattle.process.specs.declared.state.CallStack.{CallStack}
 use Rattle.process.specs.declared.state.Thread.{Thread}
 use Rattle.process.specs.declared.state.Thread.TheVariants.{Running}

@@ -24,8 +24,8 @@ use Rattle.hard_ir.specs.declared.instruction.HBlock.{HBlock}
 use Rattle.hard_ir.specs.Image.{phi_image}
 use Rattle.hard_ir.specs.Hardened.{HardParts}
 use Rattle.hard_laws.proofs.Accepted.{sound, of-code, block-line}
-use Rattle.hard_machine.specs.State.{blocks_at}
-use Rattle.hard_machine.specs.Step.{phi_on, labelled, number_in}
+use Rattle.hard_frames.specs.Code.{blocks_at}
+use Rattle.hard_frames.specs.Frames.{phi_on, labelled, number_in}
 use Rattle.hard_simulation.specs.Image.{Image, Over, Marked, Phi, Next, AreBlockImages, IsImage, copied_at}
 
 -- ---- phis

@@ -21,12 +21,12 @@ use Rattle.hard_ir.specs.declared.instruction.HInst.{HInst}
 use Rattle.hard_ir.specs.declared.instruction.HInst.TheVariants.{Do, Begin}
 use Rattle.hard_ir.specs.Image.{is_doubled, unflagged, checked, flow, copies}
 use Rattle.hard_ir.specs.Hardened.{HardParts}
-use Rattle.hard_machine.specs.declared.state.Frame.{Frame}
+use Rattle.hard_frames.specs.declared.state.Frame.{Frame}
 use Rattle.process.specs.declared.state.CallStack.{CallStack}
 use Rattle.process.specs.declared.state.Thread.{Thread}
 use Rattle.process_laws.proofs.Likeness as likeness
 use Rattle.process_laws.proofs.Likeness.{Likeness}
-use Rattle.hard_machine.specs.State.{blocks_at, list_at}
+use Rattle.hard_frames.specs.Code.{blocks_at, list_at}
 use Rattle.hard_simulation.specs.Image.{Image, ticks_onto, checks_onto, copies_onto}
 use Rattle.hard_simulation.proofs.Sides.{Sides, On, IsHurt}
 use Rattle.hard_simulation.proofs.Files.{AgreeBut, AreFresh}

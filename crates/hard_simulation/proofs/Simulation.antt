@@ -5,6 +5,7 @@ use Rattle.ir_core.proofs.Lengths.{both_true}
 use Rattle.ir_core.specs.Module.{ModuleParts}
 use Rattle.ir_check.specs.Faults.{IsAccepted}
 use Rattle.inst_meaning.specs.declared.actions.Cause.{Cause}
+use Rattle.hard_frames.specs.Frames as hard_frame
 use Rattle.sched_file.specs.Events.{Happening, TurnOf, AbortOf, UpsetBy}
 use Rattle.turn_runs.specs.Runs.{turns_of}
 use Rattle.turn_runs.proofs.Grouping.{turns_of-grouped}
@@ -21,11 +22,11 @@ use Rattle.src_meaning.specs.Runs as source_runs
 use Rattle.src_meaning.specs.Races.{IsGood}
 use Rattle.src_laws.proofs.Moves.{main-enters}
 use Rattle.hard_ir.specs.Hardened.{HardParts}
-use Rattle.hard_machine.specs.declared.outcome.Stop.TheVariants.{End, Bound}
+use Rattle.hard_frames.specs.declared.outcome.Stop.TheVariants.{End, Bound}
 use Rattle.hard_machine.specs.declared.outcome.RunResult.{RunResult}
 use Rattle.process.specs.declared.state.Thread.{Thread}
 use Rattle.process.specs.declared.state.Thread.TheVariants.{Running, Exiting, Ended}
-use Rattle.hard_machine.specs.declared.state.Frame.{Frame}
+use Rattle.hard_frames.specs.declared.state.Frame.{Frame}
 use Rattle.hard_machine.specs.State.{State}
 use Rattle.hard_machine.specs.Step as hard
 use Rattle.hard_machine.specs.Runs.{happened, run_from, result_of, run_on, is_no_upset}
@@ -116,7 +117,7 @@ module _ (m : ModuleParts) (h : HardParts) (image : IsImage m h) (accepted : IsA
   -- ---- the opening
 
   opens : Holds m h arguments (hard.opening h arguments)
-  opens = Runs (source.opening m arguments) (new_thread (hard.frames h) 0 (source_state.main_of m) [] ∷ []) []
+  opens = Runs (source.opening m arguments) (new_thread (hard_frame.frames h) 0 (source_state.main_of m) [] ∷ []) []
       (rw (heads-layout m h image, heads-main m h image, image.heads) refl) (record {
         state = refl;
         went = tt;
@@ -126,7 +127,7 @@ module _ (m : ModuleParts) (h : HardParts) (image : IsImage m h) (accepted : IsA
       })
     where
       each : (t : ℕ) → AreThreadsAt m h (slice_get (new_thread (source.frames m) 0 (source_state.main_of m) [] ∷ []) t)
-          (slice_get (new_thread (hard.frames h) 0 (source_state.main_of m) [] ∷ []) t)
+          (slice_get (new_thread (hard_frame.frames h) 0 (source_state.main_of m) [] ∷ []) t)
       each zero = record {
         index = Both;
         good = λ hurt. hurt;

@@ -39,17 +39,18 @@ use Rattle.src_laws.proofs.Accepted.{inst-calls}
 use Rattle.src_laws.proofs.Moves.{source-sound}
 use Rattle.src_laws.proofs.Placed.{IsPlaced, in-block}
 use Rattle.src_laws.proofs.Reading.{reads-next}
-use Rattle.src_laws.proofs.Suits.{HasNoResult, IsSuited, action-suits}
+use Rattle.src_laws.proofs.Suits.{IsSuited, action-suits}
 use Rattle.hard_ir.specs.declared.instruction.When.TheVariants.{Always}
 use Rattle.hard_ir.specs.declared.instruction.HInst.{HInst}
 use Rattle.hard_ir.specs.declared.instruction.HInst.TheVariants.{Cut, Begin, Tick, Chk, Mov, Do}
 use Rattle.hard_ir.specs.Image.{is_doubled, unflagged, single_result, copies, flow, checked}
 use Rattle.hard_ir.specs.Hardened.{HardParts}
-use Rattle.hard_machine.specs.declared.state.Frame.{Frame}
+use Rattle.hard_frames.specs.declared.state.Frame.{Frame}
 use Rattle.process.specs.declared.state.CallStack.{CallStack}
 use Rattle.process.specs.declared.state.Thread.{Thread}
 use Rattle.process.specs.declared.state.Thread.TheVariants.{Running}
-use Rattle.hard_machine.specs.State as hard_state
+use Rattle.hard_frames.specs.Code as hard_text
+use Rattle.hard_frames.specs.Frames as hard_frame
 use Rattle.hard_machine.specs.State.{State}
 use Rattle.hard_machine.specs.Step as hard
 use Rattle.hard_simulation.specs.Image.{IsImage, Image, Over, Marked as MarkedImage, Phi, Next, ticks_onto, checks_onto, copies_onto}
@@ -195,8 +196,8 @@ module _ (m : ModuleParts) (h : HardParts) (image : IsImage m h) (accepted : IsA
 
   -- the instruction at the place of the frame
   by-head : (inst : HInst) (rest : List HInst) → hard_code h b.frame ≡ inst ∷ rest → Holds m h arguments (hard.stepped h now t b inst)
-      → Holds m h arguments (hard.fetched h now t b (hard_state.inst_at h b.frame))
-  by-head inst rest e is = rw (get-drop (hard_state.list_at (hard_state.blocks_at h b.frame.function) b.frame.block) b.frame.index inst rest e) is
+      → Holds m h arguments (hard.fetched h now t b (hard_text.inst_at h b.frame))
+  by-head inst rest e is = rw (get-drop (hard_text.list_at (hard_text.blocks_at h b.frame.function) b.frame.block) b.frame.index inst rest e) is
 
   -- the frame has moved on, with these registers
   goes-on : (frame : Frame) → frame.function ≡ b.frame.function → frame.block ≡ b.frame.block → frame.mark ≡ b.frame.mark
@@ -209,12 +210,12 @@ module _ (m : ModuleParts) (h : HardParts) (image : IsImage m h) (accepted : IsA
     point = point;
   })
 
-  passes-on : Stands m sides (source_code m a.frame) a.frame.registers (hard_code h (hard.passed b.frame)) b.frame.masters b.frame.shadows
-      → Holds m h arguments (hard.moved now t b (hard.passed b.frame))
-  passes-on point = goes-on (hard.passed b.frame) refl refl refl point
+  passes-on : Stands m sides (source_code m a.frame) a.frame.registers (hard_code h (hard_frame.passed b.frame)) b.frame.masters b.frame.shadows
+      → Holds m h arguments (hard.moved now t b (hard_frame.passed b.frame))
+  passes-on point = goes-on (hard_frame.passed b.frame) refl refl refl point
 
-  behind-head : (inst : HInst) (rest : List HInst) → hard_code h b.frame ≡ inst ∷ rest → hard_code h (hard.passed b.frame) ≡ rest
-  behind-head inst rest e = drop-suc (hard_state.list_at (hard_state.blocks_at h b.frame.function) b.frame.block) b.frame.index inst rest e
+  behind-head : (inst : HInst) (rest : List HInst) → hard_code h b.frame ≡ inst ∷ rest → hard_code h (hard_frame.passed b.frame) ≡ rest
+  behind-head inst rest e = drop-suc (hard_text.list_at (hard_text.blocks_at h b.frame.function) b.frame.block) b.frame.index inst rest e
 
   failing : IsHurt sides → Holds m h arguments (hard.failed h now t b.frame)
   failing hurt = fails m h arguments s threads turns facts t a b sides unhurt stack at hard_at hurt
@@ -224,8 +225,8 @@ module _ (m : ModuleParts) (h : HardParts) (image : IsImage m h) (accepted : IsA
 
   -- ---- an instruction that is done on each side
 
-  action-is : (side : Side) (inst : Inst) → hard.action_on h side b.frame inst ≡ action_of (layout_of m) (callees_of m)
-      (hard_state.file side b.frame) inst
+  action-is : (side : Side) (inst : Inst) → hard_frame.action_on h side b.frame inst ≡ action_of (layout_of m) (callees_of m)
+      (hard_frame.file side b.frame) inst
   action-is side inst = rw (heads-layout m h image, heads-callees m h image) refl
 
   master-at : (inst : Inst) (behind : List Inst) (rest : List HInst) → source_code m a.frame ≡ inst ∷ behind → is_doubled inst ≡ true
@@ -240,7 +241,7 @@ module _ (m : ModuleParts) (h : HardParts) (image : IsImage m h) (accepted : IsA
           → Holds m h arguments (hard.stepped h now t b (Do M (unflagged inst) false))
       by_word word dst to assigns (GivesFault cause e hurt) = rw (action-is M (unflagged inst), e) (trapping hurt)
       by_word word dst to assigns (GivesWord own e known) =
-          rw (action-is M (unflagged inst), e, unflagged-destination inst, to) (goes-on (hard.resulted (Some (M, dst)) own b.frame) refl refl refl
+          rw (action-is M (unflagged inst), e, unflagged-destination inst, to) (goes-on (hard_frame.resulted (Some (M, dst)) own b.frame) refl refl refl
           (Doubling inst behind rest dst word left (behind-head _ _ code) rest_image doubled to assigns
           (on-map sides M _ _ (λ (agree : Agree b.frame.masters a.frame.registers). subst
           (λ (n : ℕ). Agree (put b.frame.masters dst.0 n) (put a.frame.registers dst.0 word)) (sym (known agree))
@@ -271,7 +272,7 @@ module _ (m : ModuleParts) (h : HardParts) (image : IsImage m h) (accepted : IsA
       by_word (GivesWord own e known) =
           rw (action-is S (unflagged inst), e, unflagged-destination inst, to)
           (effects.moves m h image arguments s threads turns facts t a b sides unhurt stack at hard_at
-          (in_frame a (source.resulted (Some dst) word a.frame)) (in_frame b (hard.resulted (Some (S, dst)) own b.frame))
+          (in_frame a (source.resulted (Some dst) word a.frame)) (in_frame b (hard_frame.resulted (Some (S, dst)) own b.frame))
           (steps inst behind left ∙ rw (assigns, to) refl)
           (record {
             mark = stack.mark;
@@ -297,7 +298,7 @@ module _ (m : ModuleParts) (h : HardParts) (image : IsImage m h) (accepted : IsA
       → Holds m h arguments (hard.stepped h now t b (Do M inst true))
   single-at inst behind rest left single plain code rest_image same masters shadows =
       let to : destination inst ≡ in_source (single_result inst) = single-destination inst single plain in
-      let action : hard.action_on h M b.frame inst ≡ action_of (layout_of m) (callees_of m) a.frame.registers inst = action-is M inst
+      let action : hard_frame.action_on h M b.frame inst ≡ action_of (layout_of m) (callees_of m) a.frame.registers inst = action-is M inst
       ∙ acts-alike (layout_of m) b.frame.masters a.frame.registers (callees_of m) inst single same in
       rw (action, master-takes (destination inst) (single_result inst) to)
       (effects.suited-kept m h image arguments s threads turns facts t a b sides unhurt stack at hard_at inst (single_result inst) ready to
@@ -331,11 +332,11 @@ module _ (m : ModuleParts) (h : HardParts) (image : IsImage m h) (accepted : IsA
       → Image behind rest
       → AreSame b.frame.masters a.frame.registers (checked inst) → On sides M (Agree b.frame.masters a.frame.registers)
       → On sides S (Agree b.frame.shadows a.frame.registers)
-      → Holds m h arguments (hard.fetched h now t b (hard_state.inst_at h b.frame))
+      → Holds m h arguments (hard.fetched h now t b (hard_text.inst_at h b.frame))
   doing inst behind rest left code rest_image same masters shadows = by_phi (is_phi inst) refl
     where
       by_kind : is_phi inst ≡ false → (doubled : Bool) → is_doubled inst ≡ doubled
-          → Holds m h arguments (hard.fetched h now t b (hard_state.inst_at h b.frame))
+          → Holds m h arguments (hard.fetched h now t b (hard_text.inst_at h b.frame))
       by_kind plain true e =
           let both = code ∙ ap (λ (list : List HInst). list ++ rest) (flow-doubled inst e) in
           by-head (Do M (unflagged inst) false) (Do S (unflagged inst) true ∷ rest) both
@@ -345,7 +346,7 @@ module _ (m : ModuleParts) (h : HardParts) (image : IsImage m h) (accepted : IsA
           by-head (Do M inst true) (copies (single_result inst) ++ rest) one
           (single-at inst behind rest left e plain one rest_image same masters shadows)
 
-      by_phi : (phi : Bool) → is_phi inst ≡ phi → Holds m h arguments (hard.fetched h now t b (hard_state.inst_at h b.frame))
+      by_phi : (phi : Bool) → is_phi inst ≡ phi → Holds m h arguments (hard.fetched h now t b (hard_text.inst_at h b.frame))
       by_phi true e = absurd (not-faulty inst behind Unreachable left (phi-faults (layout_of m) (callees_of m) a.frame.registers inst e))
       by_phi false e = by_kind e (is_doubled inst) refl
 
@@ -393,7 +394,7 @@ module _ (m : ModuleParts) (h : HardParts) (image : IsImage m h) (accepted : IsA
       → hard_code h b.frame ≡ checks_onto operands (flow inst ++ rest) → checked inst ≡ done ++ operands → Image behind rest
       → AreSame b.frame.masters a.frame.registers done → On sides M (Agree b.frame.masters a.frame.registers)
       → On sides S (Agree b.frame.shadows a.frame.registers)
-      → Holds m h arguments (hard.fetched h now t b (hard_state.inst_at h b.frame))
+      → Holds m h arguments (hard.fetched h now t b (hard_text.inst_at h b.frame))
   checks-at inst behind done [] rest left code all rest_image same masters shadows =
       doing inst behind rest left code rest_image (subst (λ (operands : List (Ty × Val)). AreSame b.frame.masters a.frame.registers operands)
       (sym (all ∙ append-nil done)) same) masters shadows
@@ -421,7 +422,7 @@ module _ (m : ModuleParts) (h : HardParts) (image : IsImage m h) (accepted : IsA
       → hard_code h b.frame ≡ ticks_onto ticks (checks_onto operands (flow inst ++ rest)) → checked inst ≡ done ++ operands → Image behind rest
       → AreSame b.frame.masters a.frame.registers done → On sides M (Agree b.frame.masters a.frame.registers)
       → On sides S (Agree b.frame.shadows a.frame.registers)
-      → Holds m h arguments (hard.fetched h now t b (hard_state.inst_at h b.frame))
+      → Holds m h arguments (hard.fetched h now t b (hard_text.inst_at h b.frame))
   ticks-at inst behind [] done operands rest left code all rest_image same masters shadows = checks-at inst behind done operands rest left code all
       rest_image same masters shadows
   ticks-at inst behind (n ∷ ticks) done operands rest left code all rest_image same masters shadows =
@@ -441,7 +442,7 @@ module _ (m : ModuleParts) (h : HardParts) (image : IsImage m h) (accepted : IsA
 
       by_word : (x : Option ℕ) → get b.frame.masters reg.0 ≡ x → Holds m h arguments (hard.copied h now t b reg x)
       by_word None e = let none : false ≡ true = sym (ap is_some (sym master ∙ e)) ∙ fresh.given reg.0 (first-among (ty, reg) regs) in absurd cc
-      by_word (Some n) e = goes-on (hard.resulted (Some (S, reg)) n b.frame) refl refl refl
+      by_word (Some n) e = goes-on (hard_frame.resulted (Some (S, reg)) n b.frame) refl refl refl
           (Copying regs rest (behind-head _ _ code) rest_image (fresh-rest (ty, reg) regs b.frame.masters a.frame.registers fresh) masters
           (on-map sides S _ _ (λ (but : AgreeBut ((ty, reg) ∷ regs) b.frame.shadows a.frame.registers). copied-one (ty, reg) regs b.frame.shadows
           a.frame.registers n (sym master ∙ e) but) shadows))
@@ -450,7 +451,7 @@ module _ (m : ModuleParts) (h : HardParts) (image : IsImage m h) (accepted : IsA
 
   image-at : {left : List Inst} {code : List HInst} → Image left code → source_code m a.frame ≡ left → hard_code h b.frame ≡ code
       → On sides M (Agree b.frame.masters a.frame.registers) → On sides S (Agree b.frame.shadows a.frame.registers)
-      → Holds m h arguments (hard.fetched h now t b (hard_state.inst_at h b.frame))
+      → Holds m h arguments (hard.fetched h now t b (hard_text.inst_at h b.frame))
   image-at (Over none over) left code masters shadows = absurd (somewhere (left ∙ none))
   image-at (MarkedImage rest marks rest_image) left code masters shadows =
       by-head Cut (Begin ∷ rest) (code ∙ marks) (passes-on
@@ -462,7 +463,7 @@ module _ (m : ModuleParts) (h : HardParts) (image : IsImage m h) (accepted : IsA
 
   copying-at : (regs : List (Ty × Loc)) (rest : List HInst) → hard_code h b.frame ≡ copies_onto regs rest → Image (source_code m a.frame) rest
       → AreFresh regs b.frame.masters a.frame.registers → On sides M (Agree b.frame.masters a.frame.registers)
-      → On sides S (AgreeBut regs b.frame.shadows a.frame.registers) → Holds m h arguments (hard.fetched h now t b (hard_state.inst_at h b.frame))
+      → On sides S (AgreeBut regs b.frame.shadows a.frame.registers) → Holds m h arguments (hard.fetched h now t b (hard_text.inst_at h b.frame))
   copying-at [] rest code rest_image fresh masters shadows =
       image-at rest_image refl code masters (on-map sides S _ _
       (λ (but : AgreeBut [] b.frame.shadows a.frame.registers). but-none b.frame.shadows a.frame.registers but) shadows)
@@ -471,7 +472,7 @@ module _ (m : ModuleParts) (h : HardParts) (image : IsImage m h) (accepted : IsA
 
   -- the next instruction of a thread that runs
   pub turn-at : Stands m sides (source_code m a.frame) a.frame.registers (hard_code h b.frame) b.frame.masters b.frame.shadows
-      → Holds m h arguments (hard.fetched h now t b (hard_state.inst_at h b.frame))
+      → Holds m h arguments (hard.fetched h now t b (hard_text.inst_at h b.frame))
   turn-at (Nowhere none) = absurd (somewhere none)
   turn-at (At rest_image masters shadows) = image-at rest_image refl refl masters shadows
   turn-at (Marked rest code rest_image masters shadows) = by-head Begin rest code

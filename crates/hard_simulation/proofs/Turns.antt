@@ -14,15 +14,18 @@ use Rattle.src_meaning.specs.Races.{IsGood}
 use Rattle.hard_ir.specs.declared.instruction.HInst.{HInst}
 use Rattle.hard_ir.specs.declared.instruction.HInst.TheVariants.{Cut, Begin, End, Tick, Chk, ChkMem, Mov, Do}
 use Rattle.hard_ir.specs.Hardened.{HardParts}
-use Rattle.hard_machine.specs.declared.outcome.Stop.{Stop}
-use Rattle.hard_machine.specs.declared.state.Frame.{Frame}
+use Rattle.hard_frames.specs.declared.outcome.Stop.{Stop}
+use Rattle.hard_frames.specs.declared.state.Frame.{Frame}
 use Rattle.process.specs.declared.state.CallStack.{CallStack}
 use Rattle.process.specs.declared.state.Thread.{Thread}
 use Rattle.process.specs.declared.state.Thread.TheVariants.{Running, Exiting, Ended as HasEnded}
 use Rattle.process.specs.State.{ProcessParts}
 use Rattle.process.specs.Process.{acted}
-use Rattle.hard_machine.specs.State.{State, inst_at}
-use Rattle.hard_machine.specs.Step.{frames, action_on, destination_on, retired, settled, is_active, agreed, compared, checked, copied, stepped, fetched, exited, turned, unless_stopped, turn_of}
+use Rattle.hard_machine.specs.State.{State}
+use Rattle.hard_frames.specs.Code.{inst_at}
+use Rattle.hard_frames.specs.Frames.{frames, action_on, destination_on}
+use Rattle.hard_machine.specs.Step.{retired, settled, agreed, compared, checked, copied, stepped, fetched, exited, turned, unless_stopped, turn_of}
+use Rattle.hard_frames.specs.Orders.{is_active}
 use Rattle.hard_machine.specs.Runs.{happened}
 use Rattle.hard_simulation.specs.Meaning.{AllWent, code_of, IsUndefinedOn}
 

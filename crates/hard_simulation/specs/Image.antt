@@ -21,7 +21,7 @@ use Rattle.hard_ir.specs.declared.instruction.HInst.TheVariants.{Cut, Begin, Tic
 use Rattle.hard_ir.specs.declared.instruction.HBlock.{HBlock}
 use Rattle.hard_ir.specs.Image.{copy_of, phi_image, checked, check, flow}
 use Rattle.hard_ir.specs.Hardened.{HardParts, heads_of}
-use Rattle.hard_machine.specs.State.{blocks_at}
+use Rattle.hard_frames.specs.Code.{blocks_at}
 
 -- ticks, and then the checks of these operands, before other code
 abbrev pub ticks_onto : List ℕ → List HInst → List HInst

@@ -13,8 +13,8 @@ use Rattle.process.specs.declared.state.Step.TheVariants.{Went, Waits, Idle, Und
 use Rattle.src_meaning.specs.Step.{step}
 use Rattle.src_meaning.specs.Runs.{source}
 use Rattle.turn_runs.specs.Runs.{turns_of}
-use Rattle.hard_machine.specs.declared.outcome.Stop.{Stop}
-use Rattle.hard_machine.specs.declared.outcome.Stop.TheVariants.{End, Bound, Fail, Trap}
+use Rattle.hard_frames.specs.declared.outcome.Stop.{Stop}
+use Rattle.hard_frames.specs.declared.outcome.Stop.TheVariants.{End, Bound, Fail, Trap}
 use Rattle.hard_machine.specs.declared.outcome.RunResult.{RunResult}
 use Rattle.hard_machine.specs.Runs.{is_no_upset}
 

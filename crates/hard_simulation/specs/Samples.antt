@@ -15,7 +15,7 @@ use Rattle.hard_ir.specs.Image.{no_flags}
 use Rattle.hard_ir.specs.Hardened.{HardParts}
 use Rattle.process.specs.State.{new_thread}
 use Rattle.hard_machine.specs.State.{State}
-use Rattle.hard_machine.specs.Step.{frames}
+use Rattle.hard_frames.specs.Frames.{frames}
 
 -- a register gets 2 and a number more
 abbrev pub sum_of : ℕ → Inst

@@ -1,7 +1,7 @@
 //! A run that ends in a failed check (`specs/Samples.antt`). No image of a module has one without an upset.
 ghost use Rattle.std.specs.Prelude.{◌≡◌, ◌++◌, Some, None, codes, decimal};
 ghost use Rattle.mem_image.specs.Bytes.{Memory};
-ghost use Rattle.hard_machine.specs.declared.outcome.Stop.TheVariants.{Fail};
+ghost use Rattle.hard_frames.specs.declared.outcome.Stop.TheVariants.{Fail};
 ghost use Rattle.hard_machine.specs.Step.{turn_of};
 ghost use Rattle.hard_simulation.specs.Samples.{differing, entered};
 

@@ -20,7 +20,7 @@ use Rattle.process.specs.declared.state.Thread.TheVariants.{Running, Exiting, En
 use Rattle.src_meaning.specs.declared.state.Frame.{Frame as SourceFrame}
 use Rattle.hard_ir.specs.declared.instruction.HInst.{HInst}
 use Rattle.hard_ir.specs.Hardened.{HardParts}
-use Rattle.hard_machine.specs.declared.state.Frame.{Frame}
+use Rattle.hard_frames.specs.declared.state.Frame.{Frame}
 use Rattle.hard_simulation.proofs.Sides.{Sides, Both, Alone, On}
 use Rattle.hard_simulation.proofs.Points.{source_code}
 use Rattle.hard_meaning.specs.State.{Transaction, Mode, Free, Inside}

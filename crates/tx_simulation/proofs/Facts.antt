@@ -38,7 +38,7 @@ use Rattle.hard_ir.specs.declared.instruction.HInst.TheVariants.{ChkMem}
 use Rattle.hard_ir.specs.EdgeChecks.{edge_check}
 use Rattle.hard_ir.specs.Image.{on_shadow}
 use Rattle.hard_ir.specs.Hardened.{HardParts}
-use Rattle.hard_machine.specs.declared.state.Frame.{Frame}
+use Rattle.hard_frames.specs.declared.state.Frame.{Frame}
 use Rattle.hard_simulation.specs.Meaning.{AllWent, code_of}
 use Rattle.hard_simulation.proofs.Sides.{Sides, Both, Alone, IsHurt}
 use Rattle.hard_simulation.proofs.Points.{hard_code}

@@ -38,7 +38,7 @@ use Rattle.src_meaning.specs.Step.{frames, opening, action_in, settled, step}
 use Rattle.src_meaning.specs.Runs.{source, run_from}
 use Rattle.src_meaning.specs.Races.{IsGood}
 use Rattle.hard_ir.specs.Hardened.{HardParts}
-use Rattle.hard_machine.specs.declared.state.Frame.{Frame}
+use Rattle.hard_frames.specs.declared.state.Frame.{Frame}
 use Rattle.hard_simulation.proofs.Sides.{Sides, IsHurt}
 use Rattle.hard_simulation.proofs.Turns.{state-append, answers-more}
 use Rattle.hard_meaning.specs.State.{Transaction, Mode, Free, Inside, seen_in}

@@ -43,8 +43,8 @@ use Rattle.hard_ir.specs.Image.{unflagged, copies, copy_of, is_done_twice, check
 use Rattle.hard_ir.specs.Images.{LooseRows, is_named}
 use Rattle.hard_ir.specs.EdgeChecks.{edge_check}
 use Rattle.hard_ir.specs.Hardened.{HardParts}
-use Rattle.hard_machine.specs.declared.state.Frame.{Frame}
-use Rattle.hard_machine.specs.State.{blocks_at, list_at}
+use Rattle.hard_frames.specs.declared.state.Frame.{Frame}
+use Rattle.hard_frames.specs.Code.{blocks_at, list_at}
 use Rattle.hard_simulation.specs.Image.{copies_onto}
 use Rattle.hard_simulation.proofs.Sides.{Sides, Both, Alone, On, IsHurt, on-map}
 use Rattle.hard_simulation.proofs.Files.{AreFresh, is_among}

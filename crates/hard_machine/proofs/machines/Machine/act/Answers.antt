@@ -1,6 +1,6 @@
 -- the machine after an action
 use Rattle.std.proofs.Common.{ap, sym, ◌∙◌}
-use Rattle.hard_machine.specs.declared.outcome.Stop.TheVariants.{End, Trap}
+use Rattle.hard_frames.specs.declared.outcome.Stop.TheVariants.{End, Trap}
 use Rattle.hard_machine.specs.State.{Machined}
 use Rattle.hard_machine.specs.Step.{stopped}
 use Rattle.hard_machine.specs.Telling.{place_at}

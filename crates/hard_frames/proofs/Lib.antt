@@ -1,0 +1,2 @@
+mod Phis
+mod Tables

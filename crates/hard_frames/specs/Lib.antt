@@ -1,0 +1,5 @@
+pub mod Code
+pub mod Frames
+pub mod Places
+pub mod Orders
+pub mod Labels
