@@ -3,6 +3,7 @@ pub mod Checks
 pub mod Effects
 pub mod Locks
 pub mod Records
+pub mod Rows
 pub mod Runs
 pub mod Runtime
 pub mod Samples
