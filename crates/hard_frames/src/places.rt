@@ -46,11 +46,7 @@ fn label_text<'a>(program: &'a Program<'_>, frame: &Frame) -> &'a [u8]
 }
 
 /// The place of a frame.
-pub fn place_text(
-    alloc: Global,
-    program: &Program<'_>,
-    frame: &Frame,
-) -> Result<Name, AllocError>
+pub fn place_text(alloc: Global, program: &Program<'_>, frame: &Frame) -> Result<Name, AllocError>
     ensures { IfOk result (λ place. place ≡ place_text program.now frame.now) }
 {
     let mut index = Buffer::new();

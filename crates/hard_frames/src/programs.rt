@@ -120,11 +120,7 @@ impl<'a> Program<'a> {
     }
 
     /// What the instruction at a frame's place asks for.
-    pub fn decode(
-        &self,
-        alloc: Global,
-        frame: &mut Frame,
-    ) -> Result<Option<Order>, AllocError>
+    pub fn decode(&self, alloc: Global, frame: &mut Frame) -> Result<Option<Order>, AllocError>
         ensures decoded { IfOk result (λ found. found ≡ ordered self.now frame.old) }
         ensures within { IfOk result (λ found. OnSome found (frame.old.index + 1 < 2 ^ 64)) }
         ensures fits { IfOk result (λ found. IfSome found IsFittingOrder) }

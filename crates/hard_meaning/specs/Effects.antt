@@ -55,7 +55,7 @@ did s t w retires mutex effect = record s {
   memory = memory_after w.mode effect.store s.memory;
   workers = with_born (option_map new_worker effect.born)
       (slice_set (map (spared (record { touch = effect.touch; mutex = mutex })) s.workers) t
-          (record w { thread = effect.thread; mode = mode_after retires effect.touch effect.store w.mode }));
+      (record w { thread = effect.thread; mode = mode_after retires effect.touch effect.store w.mode }));
   world = effect.world;
   turns = turns_after w.mode retires t s.turns;
 }

@@ -51,7 +51,7 @@ UpsetUndone = (memory : Memory) → run_in samples.hard_sum 0 memory (turns 0 3 
 abbrev pub UpsetHit : Type 0
 UpsetHit = (memory : Memory)
     → run_in samples.hard_sum 0 memory
-        (turns 0 2 ++ abort_of 0 ++ turns 0 1 ++ abort_of 0 ++ turns 0 1 ++ abort_of 0 ++ turns 0 2 ++ upset_of 0 M name_a 1 ++ turns 0 3)
+    (turns 0 2 ++ abort_of 0 ++ turns 0 1 ++ abort_of 0 ++ turns 0 1 ++ abort_of 0 ++ turns 0 2 ++ upset_of 0 M name_a 1 ++ turns 0 3)
     ≡ record { outs = []; upsets = Hit ∷ []; aborts = other_aborts 3; stop = Fail (record { 0 = 0 }) (codes "main/0/" ++ decimal 5); turns = only_thread 1 }
 
 -- an upset between the check and what it guards
@@ -154,7 +154,7 @@ LocksWatched = run_in (harden samples.locked_writers) 1 small_heap (turns 0 24 +
 -- a thread outside takes the mutex that another one watches, which aborts
 abbrev pub WatchConflicts : Type 0
 WatchConflicts = run_in (harden samples.locked_writers) 1 small_heap
-        (turns 0 24 ++ turns 1 3 ++ abort_of 1 ++ turns 1 1 ++ abort_of 1 ++ turns 1 1 ++ abort_of 1 ++ turns 1 40 ++ turns 0 60)
+    (turns 0 24 ++ turns 1 3 ++ abort_of 1 ++ turns 1 1 ++ abort_of 1 ++ turns 1 1 ++ abort_of 1 ++ turns 1 40 ++ turns 0 60)
     ≡ record { outs = []; upsets = []; aborts = record no_aborts { conflict = 1; other = 3 }; stop = End 0; turns = of_thread 0 4 ∷ of_thread 1 6 ∷ of_thread 0 5 ∷ [] }
 
 -- a transaction that holds a mutex can't end before a call that leaves the module: three aborts, and then it goes on outside

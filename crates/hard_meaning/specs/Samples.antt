@@ -134,29 +134,29 @@ hard_sum = record {
 abbrev pub store_and_load : ModuleParts
 store_and_load = module_of (gives_out 0 ∷ [])
     (main_with 1 (block 0 (address_of 1 0 ∷ stored 7 (register 1) ∷ loaded 2 (register 1) ∷ out 0 (register 2) ∷ returned ∷ []) ∷ [])
-        (codes "0" ∷ codes "p" ∷ codes "v" ∷ []) ∷ [])
+    (codes "0" ∷ codes "p" ∷ codes "v" ∷ []) ∷ [])
     (codes "haft_out" ∷ codes "main" ∷ [])
 
 -- a mutex is locked twice
 abbrev pub locked_twice : ModuleParts
 locked_twice = module_of (locks 0 ∷ [])
     (main_with 1 (block 0 (address_of 1 0 ∷ on_mutex 2 0 (register 1) ∷ on_mutex 3 0 (register 1) ∷ returned ∷ []) ∷ [])
-        (codes "0" ∷ codes "p" ∷ codes "a" ∷ codes "b" ∷ []) ∷ [])
+    (codes "0" ∷ codes "p" ∷ codes "a" ∷ codes "b" ∷ []) ∷ [])
     (codes "pthread_mutex_lock" ∷ codes "main" ∷ [])
 
 -- `main` writes a word of the heap and reads it again, while a second thread does this to the word at a place of the heap
 abbrev pub beside : (Val → Inst) → ℕ → ModuleParts
 beside does byte = module_of (makes_threads 0 ∷ gives_out 1 ∷ [])
-    ( thread_with 2 (does (register 0) ∷ returned_null ∷ []) (codes "y" ∷ [])
+    (thread_with 2 (does (register 0) ∷ returned_null ∷ []) (codes "y" ∷ [])
     ∷ main_with 3 (block 0
-        ( address_of 1 0
-        ∷ address_of 2 byte
-        ∷ address_of 3 128
-        ∷ made 4 0 (register 3) 2 (register 2)
-        ∷ stored 2 (register 1)
-        ∷ loaded 5 (register 1)
-        ∷ out 1 (register 5)
-        ∷ returned ∷ []) ∷ []) (codes "0" ∷ codes "a" ∷ codes "b" ∷ codes "t" ∷ codes "r" ∷ codes "v" ∷ [])
+    (address_of 1 0
+    ∷ address_of 2 byte
+    ∷ address_of 3 128
+    ∷ made 4 0 (register 3) 2 (register 2)
+    ∷ stored 2 (register 1)
+    ∷ loaded 5 (register 1)
+    ∷ out 1 (register 5)
+    ∷ returned ∷ []) ∷ []) (codes "0" ∷ codes "a" ∷ codes "b" ∷ codes "t" ∷ codes "r" ∷ codes "v" ∷ [])
     ∷ [])
     (codes "pthread_create" ∷ codes "haft_out" ∷ codes "w" ∷ codes "main" ∷ [])
 
@@ -169,17 +169,17 @@ divided = module_of []
 -- two threads write to different lines, each while it holds the same mutex
 abbrev pub locked_writers : ModuleParts
 locked_writers = module_of (makes_threads 0 ∷ locks 1 ∷ locks 2 ∷ [])
-    ( thread_with 3 (address_of 2 128 ∷ on_mutex 3 1 (register 0) ∷ stored 2 (register 2) ∷ on_mutex 4 2 (register 0) ∷ returned_null ∷ [])
-        (codes "b" ∷ codes "l" ∷ codes "u" ∷ [])
+    (thread_with 3 (address_of 2 128 ∷ on_mutex 3 1 (register 0) ∷ stored 2 (register 2) ∷ on_mutex 4 2 (register 0) ∷ returned_null ∷ [])
+    (codes "b" ∷ codes "l" ∷ codes "u" ∷ [])
     ∷ main_with 4 (block 0
-        ( address_of 1 0
-        ∷ address_of 2 64
-        ∷ address_of 3 192
-        ∷ made 4 0 (register 3) 3 (register 1)
-        ∷ on_mutex 5 1 (register 1)
-        ∷ stored 1 (register 2)
-        ∷ on_mutex 6 2 (register 1)
-        ∷ returned ∷ []) ∷ []) (codes "0" ∷ codes "m" ∷ codes "a" ∷ codes "t" ∷ codes "r" ∷ codes "l" ∷ codes "u" ∷ [])
+    (address_of 1 0
+    ∷ address_of 2 64
+    ∷ address_of 3 192
+    ∷ made 4 0 (register 3) 3 (register 1)
+    ∷ on_mutex 5 1 (register 1)
+    ∷ stored 1 (register 2)
+    ∷ on_mutex 6 2 (register 1)
+    ∷ returned ∷ []) ∷ []) (codes "0" ∷ codes "m" ∷ codes "a" ∷ codes "t" ∷ codes "r" ∷ codes "l" ∷ codes "u" ∷ [])
     ∷ [])
     (codes "pthread_create" ∷ codes "pthread_mutex_lock" ∷ codes "pthread_mutex_unlock" ∷ codes "w" ∷ codes "main" ∷ [])
 
@@ -187,7 +187,7 @@ locked_writers = module_of (makes_threads 0 ∷ locks 1 ∷ locks 2 ∷ [])
 abbrev pub out_while_locked : ModuleParts
 out_while_locked = module_of (locks 0 ∷ locks 1 ∷ gives_out 2 ∷ [])
     (main_with 3 (block 0 (address_of 1 0 ∷ on_mutex 2 0 (register 1) ∷ out 2 (values.Int 7) ∷ on_mutex 3 1 (register 1) ∷ returned ∷ []) ∷ [])
-        (codes "0" ∷ codes "m" ∷ codes "l" ∷ codes "u" ∷ []) ∷ [])
+    (codes "0" ∷ codes "m" ∷ codes "l" ∷ codes "u" ∷ []) ∷ [])
     (codes "pthread_mutex_lock" ∷ codes "pthread_mutex_unlock" ∷ codes "haft_out" ∷ codes "main" ∷ [])
 
 abbrev pub is_zero : Inst
@@ -197,10 +197,10 @@ is_zero = insts.Cmp (at 1) predicates.Eq (types.Int W64) (values.Int 0) (values.
 abbrev pub branched : ModuleParts
 branched = module_of (gives_out 0 ∷ [])
     (main_with 1
-        ( block 0 (is_zero ∷ insts.CondBr (register 1) (at 2) (at 3) ∷ [])
-        ∷ block 2 (out 0 (values.Int 1) ∷ returned ∷ [])
-        ∷ block 3 (out 0 (values.Int 2) ∷ returned ∷ [])
-        ∷ []) (codes "0" ∷ codes "c" ∷ codes "a" ∷ codes "b" ∷ []) ∷ [])
+    (block 0 (is_zero ∷ insts.CondBr (register 1) (at 2) (at 3) ∷ [])
+    ∷ block 2 (out 0 (values.Int 1) ∷ returned ∷ [])
+    ∷ block 3 (out 0 (values.Int 2) ∷ returned ∷ [])
+    ∷ []) (codes "0" ∷ codes "c" ∷ codes "a" ∷ codes "b" ∷ []) ∷ [])
     (codes "haft_out" ∷ codes "main" ∷ [])
 
 -- its hardened text with checks on edges, written out: each target compares the direction taken with the condition's shadow
@@ -219,10 +219,10 @@ edged_branch = record {
   heads = module_of (gives_out 0 ∷ []) (main_with 1 [] (codes "0" ∷ codes "c" ∷ codes "a" ∷ codes "edge.1" ∷ codes "b" ∷ codes "edge.2" ∷ []) ∷ [])
       (codes "haft_out" ∷ codes "main" ∷ []);
   funcs = (record {
-      label = at 0;
-      phis = [];
-      list = Cut ∷ Begin ∷ Do M is_zero false ∷ Do S is_zero true ∷ Tick 7 ∷ Chk Always (types.Int W1) (at 1) ∷ Do M (insts.CondBr (register 1) (at 2) (at 4)) true ∷ [];
-    } ∷ target_of 2 3 1 1 ∷ target_of 4 5 0 2 ∷ []) ∷ [];
+    label = at 0;
+    phis = [];
+    list = Cut ∷ Begin ∷ Do M is_zero false ∷ Do S is_zero true ∷ Tick 7 ∷ Chk Always (types.Int W1) (at 1) ∷ Do M (insts.CondBr (register 1) (at 2) (at 4)) true ∷ [];
+  } ∷ target_of 2 3 1 1 ∷ target_of 4 5 0 2 ∷ []) ∷ [];
 }
 
 -- ---- runs

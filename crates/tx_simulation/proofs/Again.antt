@@ -74,9 +74,10 @@ known-word : (names : ℕ → Bool) (mode : Mode) (a b : Memory) (place : Place)
     → AreAlike mode (Some (Read place false)) a b → IsRead mode a (Read place false)
     → AgreeIn names masters (put registers dst (peek a place.address (bytes place.size)))
     → IsRead mode b (Read place false) × AgreeIn names masters (put registers dst (peek b place.address (bytes place.size)))
-known-word names mode a b place masters registers dst alike r agree =
-    (read-again mode a b place alike.places r,
-      subst (λ (n : ℕ). AgreeIn names masters (put registers dst n)) (alike.words place r.0 (read-rests mode a place r)) agree)
+known-word names mode a b place masters registers dst alike r agree = (
+  read-again mode a b place alike.places r,
+  subst (λ (n : ℕ). AgreeIn names masters (put registers dst n)) (alike.words place r.0 (read-rests mode a place r)) agree,
+)
 
 given-word : (names : ℕ → Bool) (sides : Sides) (mode : Mode) (a b : Memory) (place : Place) (masters registers : List (Option ℕ)) (dst : ℕ)
     → AreAlike mode (Some (Read place false)) a b → On sides M (IsRead mode a (Read place false))
@@ -92,7 +93,7 @@ given-again : (names : ℕ → Bool) (sides : Sides) (mode : Mode) (a b : Memory
 given-again names sides mode a b (Read place false) masters registers dst word alike e r agree =
     let f : word ≡ peek a place.address (bytes place.size) = cc in
     let both = given-word names sides mode a b place masters registers dst alike r
-      (subst (λ (n : ℕ). On sides M (AgreeIn names masters (put registers dst n))) f agree) in
+    (subst (λ (n : ℕ). On sides M (AgreeIn names masters (put registers dst n))) f agree) in
     record { word = peek b place.address (bytes place.size); given = refl; read = both.0; agree = both.1 }
 given-again names sides mode a b (Assign n) masters registers dst word alike e r agree = record { word = word; given = e; read = r; agree = agree }
 given-again names sides mode a b (Read place true) masters registers dst word alike e r agree = absurd cc
@@ -124,7 +125,7 @@ stands-again m names edged sides mode a b left registers past code masters shado
 stands-again m names edged sides mode a b left registers past code masters shadows alike
     (Doubling inst behind rest dst word e f rows twice to given read agree agree') =
     let again = given-again names sides mode a b (source_action m registers inst) masters registers dst.0 word
-      (subst (λ (insts : List Inst). AreAlike mode (next_action m registers insts) a b) e alike) given read agree in
+    (subst (λ (insts : List Inst). AreAlike mode (next_action m registers insts) a b) e alike) given read agree in
     Doubling inst behind rest dst again.word e f rows twice to again.given again.read again.agree agree'
 stands-again m names edged sides mode a b left registers past code masters shadows alike
     (Late ty ptr val w pointers address n rest f rows one width p v s agree agree') =

@@ -156,7 +156,7 @@ left-hits w tx status sides (k ∷ struck) e is hurt z = absurd z
 left-hits w tx status sides [] e is hurt z =
     let c = hurt z in
     let f : (has w.hits c.number || has [] c.number) ≡ true = ap (λ (list : List ℕ). has w.hits c.number || has list c.number) (sym e)
-      ∙ ap (λ (mode : Mode). has w.hits c.number || has (struck_in mode) c.number) (sym is) ∙ c.carried in
+    ∙ ap (λ (mode : Mode). has w.hits c.number || has (struck_in mode) c.number) (sym is) ∙ c.carried in
     record { number = c.number; carried = f }
 
 aborted-at : (m : ModuleParts) (h : HardParts) (mem : Memory) (t : ℕ) (x : Thread SourceFrame) (w : Worker) (status : Status) (sides : Sides) (mode : Mode) → w.mode ≡ mode
@@ -243,10 +243,23 @@ tx-again m h sides P a b t x y tx change clear o = record { kept = o.kept; inner
     by_standing : IsInside m h sides a t x y tx ⊎ (IsHurt sides × (IsDoomed m h tx (seen_through tx.footprint a) y ⊎ IsAstray h y))
         → IsInside m h sides b t x y tx ⊎ (IsHurt sides × (IsDoomed m h tx (seen_through tx.footprint b) y ⊎ IsAstray h y))
     by_standing (inl i) = inl (inside-again m h sides P a b t x y tx change clear i)
-    by_standing (inr (hurt, inl d)) = inr (hurt, inl (record {
-      stack = d.stack; is = d.is; ty = d.ty; ptr = d.ptr; val = d.val; w = d.w; width = d.width; pointers = d.pointers; rest = d.rest; code = d.code; one = d.one;
-      wrong = wrong-again m P a b tx d.w d.pointers d.ptr d.val d.stack.frame.masters d.stack.frame.shadows change clear d.wrong;
-    }))
+    by_standing (inr (hurt, inl d)) = inr (
+      hurt,
+      inl (record {
+        stack = d.stack;
+        is = d.is;
+        ty = d.ty;
+        ptr = d.ptr;
+        val = d.val;
+        w = d.w;
+        width = d.width;
+        pointers = d.pointers;
+        rest = d.rest;
+        code = d.code;
+        one = d.one;
+        wrong = wrong-again m P a b tx d.w d.pointers d.ptr d.val d.stack.frame.masters d.stack.frame.shadows change clear d.wrong;
+      }),
+    )
     by_standing (inr (hurt, inr d)) = inr (hurt, inr d)
 
 -- and outside, where what the next step of the source reads is the same

@@ -96,7 +96,7 @@ written-quiet retires (Some touch) tx = fun_ext (λ at. access-writes_nothing to
 pub written-stored : (spans : List Span) (retires : Bool) (touch : Touch) (word : ℕ) (tx : Transaction) → AreLines tx.footprint.write_set → touch.writes ≡ true
     → is_valid spans touch.address touch.size ≡ true
     → written_by (transaction_after retires (Some touch) (Some (record { address = touch.address; size = touch.size; word = word })) tx).footprint
-      ≡ stored (written_by tx.footprint) touch.address touch.size word
+    ≡ stored (written_by tx.footprint) touch.address touch.size word
 written-stored spans retires touch word tx all writes valid = fun_ext (λ at.
     access-writes spans touch (record { address = touch.address; size = touch.size; word = word }) tx.footprint.write_set at all writes refl valid)
 
@@ -111,7 +111,7 @@ pub buffers-stored : (spans : List Span) (retires : Bool) (touch : Touch) (word 
 buffers-stored spans retires touch word tx all valid =
     access-kept spans touch (Some (record { address = touch.address; size = touch.size; word = word })) tx.footprint.write_set all
     (λ s e. let same : record { address = touch.address; size = touch.size; word = word } ≡ s = cc in
-      subst (λ (k : Store). is_valid spans k.address k.size ≡ true) same valid)
+    subst (λ (k : Store). is_valid spans k.address k.size ≡ true) same valid)
 
 pub writes-quiet : (retires : Bool) (touch : Option Touch) (tx : Transaction) → AreWritten tx → AreWritten (transaction_after retires touch None tx)
 writes-quiet retires touch tx written at byte e =
@@ -204,7 +204,14 @@ pub in-tx : (m : ModuleParts) (h : HardParts) (sides : Sides) (mem : Memory) (t 
 in-tx m h sides mem t x xs y tx l point = record {
   kept = l.kept;
   inner = inl (record {
-    now = l.now; ran = l.ran; written = l.written; accessed = l.accessed; held = l.held; locked = l.locked; buffers = l.buffers; writes = l.writes;
+    now = l.now;
+    ran = l.ran;
+    written = l.written;
+    accessed = l.accessed;
+    held = l.held;
+    locked = l.locked;
+    buffers = l.buffers;
+    writes = l.writes;
     stands = subst (λ (z : Thread SourceFrame). IsThreadOn m h sides (Inside tx) (seen_through tx.footprint mem) z y) (sym l.thread) point;
   });
 }
@@ -213,8 +220,16 @@ pub link-of : (m : ModuleParts) (h : HardParts) (sides : Sides) (mem : Memory) (
     → ((any : Memory) → IsThreadOn m h (back_to tx.struck sides) (Free false) any x (Running tx.kept)) → (i : IsInside m h sides mem t x y tx)
     → Link m h sides mem t x tx i.now.thread
 link-of m h sides mem t x y tx kept i = record {
-  now = i.now; ran = i.ran; written = i.written; accessed = i.accessed; held = i.held; locked = i.locked; buffers = i.buffers; writes = i.writes;
-  kept = kept; thread = refl;
+  now = i.now;
+  ran = i.ran;
+  written = i.written;
+  accessed = i.accessed;
+  held = i.held;
+  locked = i.locked;
+  buffers = i.buffers;
+  writes = i.writes;
+  kept = kept;
+  thread = refl;
 }
 
 pub ok-from : (m : ModuleParts) (h : HardParts) (sides : Sides) (mem : Memory) (t : ℕ) (x xs : Thread SourceFrame) (y : Thread Frame) (mode : Mode)
@@ -235,13 +250,17 @@ pub link-more : (m : ModuleParts) (h : HardParts) (sides : Sides) (mem : Memory)
     → Link m h sides mem t x (transaction_after true touch store tx) (thread_after (frames m) (destination inst) stack action old)
 link-more m h sides mem t x tx touch store stack inst action old l stands act by_itself can word same own buffers writes =
     let word' : word_read (view mem l.now.written) (action_in m stack.frame inst) ≡ old =
-        ap (λ (f : Written). word_read (view mem f) (action_in m stack.frame inst)) l.written ∙ ap (word_read (seen_through tx.footprint mem)) act ∙ word in
+    ap (λ (f : Written). word_read (view mem f) (action_in m stack.frame inst)) l.written ∙ ap (word_read (seen_through tx.footprint mem)) act ∙ word in
     record {
       now = lone_after m (destination inst) stack action old l.now;
-      ran = (l.now, l.ran, ByItself stack inst l.thread stands (subst IsAlone (sym act) by_itself)
-          (ap (failure (frames m) mem.places t stack) act ∙ can)
-          (sym (ap (λ (n : ℕ). lone_after m (destination inst) stack (action_in m stack.frame inst) n l.now) word'
-          ∙ ap (λ (k : Action). lone_after m (destination inst) stack k old l.now) act)));
+      ran = (
+        l.now,
+        l.ran,
+        ByItself stack inst l.thread stands (subst IsAlone (sym act) by_itself)
+            (ap (failure (frames m) mem.places t stack) act ∙ can)
+            (sym (ap (λ (n : ℕ). lone_after m (destination inst) stack (action_in m stack.frame inst) n l.now) word'
+            ∙ ap (λ (k : Action). lone_after m (destination inst) stack k old l.now) act)),
+      );
       written = ap (λ (f : Written). stored_with stored (store_of action old) f) l.written ∙ same;
       accessed = all-more (Inside (transaction_after true touch store tx)) (place_of action) l.now.accessed own
           (all-keep true touch store tx l.now.accessed l.accessed);
@@ -316,7 +335,7 @@ pub good-step : (m : ModuleParts) (arguments turns : List ℕ) → IsGood m argu
 good-step m arguments turns good u cause e =
     good.defined (turns ++ u ∷ []) (length (source m arguments turns).answers) cause
     (ap (λ (answers : List Step). slice_get answers (length (source m arguments turns).answers))
-      (answers-more m arguments turns u ∙ ap (λ (answer : Step). (source m arguments turns).answers ++ answer ∷ []) e)
+    (answers-more m arguments turns u ∙ ap (λ (answer : Step). (source m arguments turns).answers ++ answer ∷ []) e)
     ∙ last-there (source m arguments turns).answers (Undefined cause))
 
 module _ (m : ModuleParts) (h : HardParts) (arguments : List ℕ) (good : IsGood m arguments) (s : SourceState) (turns : List ℕ)
@@ -328,7 +347,7 @@ module _ (m : ModuleParts) (h : HardParts) (arguments : List ℕ) (good : IsGood
   good-alone n k free ran u cause e =
       let walked : Walked m s t n k = solo m s t x n k at going whole free ran in
       let there : (source m arguments (turns ++ replicate n t)).state ≡ state_at s t k =
-          state-append m (opening m arguments) turns (replicate n t) ∙ ap (λ (now : SourceState). (run_from m now (replicate n t)).state) state ∙ walked.state in
+      state-append m (opening m arguments) turns (replicate n t) ∙ ap (λ (now : SourceState). (run_from m now (replicate n t)).state) state ∙ walked.state in
       good-step m arguments (turns ++ replicate n t) good u cause (ap (λ (now : SourceState). (step m now u).1) there ∙ e)
 
   -- an action that the thread does by itself can be done
@@ -341,5 +360,5 @@ module _ (m : ModuleParts) (h : HardParts) (arguments : List ℕ) (good : IsGood
       by_failure None e = refl
       by_failure (Some cause) e = absurd (good-alone n k free ran t cause (ap (λ (p : SourceState × Step). p.1) (steps-at m s t x at going whole k stack inst runs stands
           ∙ ap (λ o. settled (state_at s t k) (done (process_at s.process t k) t o))
-            (outcome-alone (frames m) (process_at s.process t k) t (destination inst) stack (action_in m stack.frame inst) by_itself
-            ∙ ap (λ (o : Option Cause). goes_unless o (effect_alone (frames m) (process_at s.process t k) (destination inst) stack (action_in m stack.frame inst))) e))))
+          (outcome-alone (frames m) (process_at s.process t k) t (destination inst) stack (action_in m stack.frame inst) by_itself
+          ∙ ap (λ (o : Option Cause). goes_unless o (effect_alone (frames m) (process_at s.process t k) (destination inst) stack (action_in m stack.frame inst))) e))))

@@ -174,9 +174,9 @@ module _ (m : ModuleParts) (h : HardParts) (mem : Memory) (owners : List (ℕ ×
         named t v hard (Last i e) =
             let same_w : w ≡ v = let g : Some w ≡ Some v = sym e ∙ hard in cc in
             subst (AreNamed upsets) same_w (λ k c.
-                let d : (has [] k || has (struck_in (Free false)) k) ≡ true = ap (λ (l : List ℕ). has l k || has (struck_in (Free false)) k) (sym none)
-                    ∙ ap (λ (mode : Mode). has w.hits k || has (struck_in mode) k) (sym free) ∙ c in
-                cc)
+            let d : (has [] k || has (struck_in (Free false)) k) ≡ true = ap (λ (l : List ℕ). has l k || has (struck_in (Free false)) k) (sym none)
+            ∙ ap (λ (mode : Mode). has w.hits k || has (struck_in mode) k) (sym free) ∙ c in
+            cc)
 
   pub more-workers : (born : Option (Thread SourceFrame)) (made : Option Worker) → AreMade m h mem born made
       → AreWorkers m h mem owners upsets (with_born born xs) (with_born made ws)
@@ -280,7 +280,7 @@ module _ (m : ModuleParts) (h : HardParts) (arguments : List ℕ) (s : SourceSta
   each-outside : (claim : Claim) (w' : Worker) (P : ℕ → Type 0) (next : SourceState) (x' : Thread SourceFrame)
       → Changes P s.process.memory next.process.memory
       → ((u : ℕ) (y : Thread SourceFrame) (v : Worker) → u ≢ t → slice_get s.process.threads u ≡ Some y → slice_get workers u ≡ Some v
-        → IsRested (spared claim v).mode (next_of m y) P s.process.memory next.process.memory)
+      → IsRested (spared claim v).mode (next_of m y) P s.process.memory next.process.memory)
       → IsWorker m h next.process.memory t x' w'
       → (u : ℕ) (y : Thread SourceFrame) (v : Worker) → slice_get (slice_set s.process.threads t x') u ≡ Some y → slice_get (moved_with claim w') u ≡ Some v
       → IsWorker m h next.process.memory u y v
@@ -313,7 +313,7 @@ module _ (m : ModuleParts) (h : HardParts) (arguments : List ℕ) (s : SourceSta
       → next.process.threads ≡ with_born born (slice_set s.process.threads t x') → AreMade m h next.process.memory born made
       → Changes P s.process.memory next.process.memory
       → ((u : ℕ) (y : Thread SourceFrame) (v : Worker) → u ≢ t → slice_get s.process.threads u ≡ Some y → slice_get workers u ≡ Some v
-        → IsRested (spared claim v).mode (next_of m y) P s.process.memory next.process.memory)
+      → IsRested (spared claim v).mode (next_of m y) P s.process.memory next.process.memory)
       → IsWorker m h next.process.memory t x' w'
       → ((mode : Mode) → is_in_the_way claim mode ≡ false → AreApart w.mode mode → AreApart w'.mode mode)
       → ((mode : Mode) → is_in_the_way claim mode ≡ false → AreApart mode w.mode → AreApart mode w'.mode)
@@ -341,4 +341,3 @@ module _ (m : ModuleParts) (h : HardParts) (arguments : List ℕ) (s : SourceSta
       all = answers-append m (opening m arguments) turns (replicate n t)
           ∙ ap (λ (now : SourceState). (source m arguments turns).answers ++ (run_from m now (replicate n t)).answers) facts.state
           ∙ ap (λ (list : List Step). (source m arguments turns).answers ++ list) goes.answers
-

@@ -159,7 +159,7 @@ module _ (retires : Bool) (store : Option Store) (tx : Transaction) where
       → (((touch.reads || touch.writes) ≡ true) × (line ≡ line_of touch.address)) ⊎ (touched (Inside tx) line ≡ true)
   touched-only touch line e = ⊎_elim
       (λ f. ⊎_elim (λ g. inl (or-left touch.reads touch.writes g.0, g.1)) (λ g. inr (or-left (has tx.footprint.read_set line) _ g))
-        (read-only touch.reads tx.footprint.read_set (line_of touch.address) line f))
+      (read-only touch.reads tx.footprint.read_set (line_of touch.address) line f))
       (λ f. ⊎_elim (λ g. inl (or-right touch.reads touch.writes g.0, g.1)) (λ g. inr (or-right (has tx.footprint.read_set line) _ g)) (wrote-only touch line f))
       (or_cases (has (read_after touch.reads tx.footprint.read_set (line_of touch.address)) line) _ e)
 

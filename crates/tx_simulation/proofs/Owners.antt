@@ -21,9 +21,9 @@ lies : (a b : ℕ) → Lies a b
 lies a b = ⊎_elim
     (λ less. Below less (rw (lt-ltb a b less) refl))
     (λ more. ⊎_elim
-        (λ same. Same same (rw (le-ltb a b more, eq-eqb a b same) refl))
-        (λ other. Above (omega (arith, more, other)) (rw (le-ltb a b more, ne_eqb a b other) refl))
-        (cases_eq a b))
+    (λ same. Same same (rw (le-ltb a b more, eq-eqb a b same) refl))
+    (λ other. Above (omega (arith, more, other)) (rw (le-ltb a b more, ne_eqb a b other) refl))
+    (cases_eq a b))
     (cases_lt a b)
 
 abbrev Owners : Type 0
@@ -231,13 +231,13 @@ last-added t (b ∷ held) owners a all free e = by_first (nat_eq a b) refl e (la
     by_first true f e rest =
         let is : a ≡ b = eqb-true a b f in
         rw f (ap (λ (k : ℕ). with_owner (owners_with t held owners) k t) (sym is)
-            ∙ ap (λ (others : List ℕ). with_owner (owners_with t others owners) a t) (sym (without-absent held a (ap (has held) is ∙ all.0))))
+        ∙ ap (λ (others : List ℕ). with_owner (owners_with t others owners) a t) (sym (without-absent held a (ap (has held) is ∙ all.0))))
     by_first false f e rest =
         let other : a ≢ b = eqb-false a b f in
         rw f (ap (λ (o : Owners). with_owner o b t) (rest e)
-            ∙ either-order (owners_with t (without held a) owners) a b t other
-              (not-held t (without held a) owners a (gone-without held a) ∙ free-rest owners b held free a e)
-              (not-held t (without held a) owners b (has-without held a b all.0) ∙ free-first owners b held free))
+        ∙ either-order (owners_with t (without held a) owners) a b t other
+        (not-held t (without held a) owners a (gone-without held a) ∙ free-rest owners b held free a e)
+        (not-held t (without held a) owners b (has-without held a b all.0) ∙ free-first owners b held free))
 
 -- so one that is unlocked is no longer among them
 pub unlocked-one : (t : ℕ) (held : List ℕ) (owners : Owners) (a : ℕ) → AreDistinct held → AreFree owners held → has held a ≡ true
@@ -245,4 +245,4 @@ pub unlocked-one : (t : ℕ) (held : List ℕ) (owners : Owners) (a : ℕ) → A
 unlocked-one t held owners a all free e =
     ap (remove_entry (is_at (nat_cmp a))) (last-added t held owners a all free e)
     ∙ removed-again (owners_with t (without held a) owners) a t
-      (not-held t (without held a) owners a (gone-without held a) ∙ free a e)
+    (not-held t (without held a) owners a (gone-without held a) ∙ free a e)

@@ -47,9 +47,9 @@ free-ordered : (m : ModuleParts) (s : State) (t u : ℕ) → race_of m s ≡ Non
     → clash_of (next_access m s t) (next_access m s u) ≡ false
 free-ordered m s t u free less there = none-found (is_race m s) (t, u) (pairs_of (length s.process.threads)) free
     (in-flat (pairs_from (length s.process.threads)) t (t, u) (range_with_len 0 (length s.process.threads))
-      (range-in 0 (length s.process.threads) t (omega arith) (omega (arith, less, there)))
-      (in-map (λ (v : ℕ). (t, v)) u (range_with_len (t + 1) (length s.process.threads - (t + 1)))
-      (range-in (t + 1) (length s.process.threads - (t + 1)) u (omega (arith, less)) (omega (arith, less, there)))))
+    (range-in 0 (length s.process.threads) t (omega arith) (omega (arith, less, there)))
+    (in-map (λ (v : ℕ). (t, v)) u (range_with_len (t + 1) (length s.process.threads - (t + 1)))
+    (range-in (t + 1) (length s.process.threads - (t + 1)) u (omega (arith, less)) (omega (arith, less, there)))))
 
 and-swap : (a b : Bool) → (a && b) ≡ (b && a)
 and-swap true true = refl
@@ -156,7 +156,7 @@ pub step-leaves : (m : ModuleParts) (s : State) (t u : ℕ) (stack : CallStack F
     → slice_get s.process.threads u ≡ Some y → next_of m y ≡ Some (Read place false)
     → is_valid s.process.memory.places place.address (bytes place.size) ≡ true
     → peek (memory_with (store_of (action_in m stack.frame inst) old) s.process.memory) place.address (bytes place.size)
-      ≡ peek s.process.memory place.address (bytes place.size)
+    ≡ peek s.process.memory place.address (bytes place.size)
 step-leaves m s t u stack inst y place old free going whole ne at stands can there next valid =
     words_elsewhere s.process.memory (action_in m stack.frame inst) (length s.process.threads) old place.address (bytes place.size) whole
     (valid_where_done (frames m) s.process.memory t stack (action_in m stack.frame inst) can) valid
@@ -173,7 +173,7 @@ module _ (m : ModuleParts) (arguments : List ℕ) (good : IsGood m arguments) (s
   free-at n k free ran =
       let walked : Walked m s t n k = solo m s t x n k at going whole free ran in
       let there : (source m arguments (turns ++ replicate n t)).state ≡ state_at s t k =
-          state-append m (opening m arguments) turns (replicate n t) ∙ ap (λ (now : State). (run_from m now (replicate n t)).state) state ∙ walked.state in
+      state-append m (opening m arguments) turns (replicate n t) ∙ ap (λ (now : State). (run_from m now (replicate n t)).state) state ∙ walked.state in
       ap (race_of m) (sym there) ∙ good.race_free (turns ++ replicate n t)
 
   other-there : (k : Lone) → slice_get (slice_set s.process.threads t k.thread) u ≡ Some y
@@ -198,8 +198,8 @@ module _ (m : ModuleParts) (arguments : List ℕ) (good : IsGood m arguments) (s
           ap (λ (o : Lone). peek (view s.process.memory o.written) place.address (bytes place.size)) is
           ∙ ap (λ (mem : Memory). peek mem place.address (bytes place.size)) (sym (memory-seen m s.process.memory k.written t stack action old whole can))
           ∙ step-leaves m (state_at s t k) t u stack inst y place old (free-at n k (λ a e. free a (locked-before m s.process.memory t k l st a e)) ran)
-            going (view-whole s.process.memory k.written whole) ne
-            (set-there s.process.threads t k.thread x at ∙ ap Some runs) stands can (other-there k) next valid
+          going (view-whole s.process.memory k.written whole) ne
+          (set-there s.process.threads t k.thread x at ∙ ap Some runs) stands can (other-there k) next valid
           ∙ before
       by_step (OfMutex stack inst call runs stands asks can is) before =
           ap (λ (o : Lone). peek (view s.process.memory o.written) place.address (bytes place.size)) is ∙ before

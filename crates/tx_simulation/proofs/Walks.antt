@@ -298,7 +298,7 @@ module _ (m : ModuleParts) (s : State) (t : ℕ) (x : Thread Frame) (at : slice_
   -- the step of a thread that stands so
   pub steps-at : (k : Lone) (stack : CallStack Frame) (inst : Inst) → k.thread ≡ Running stack → inst_at m stack.frame ≡ Some inst
       → step m (state_at s t k) t ≡ settled (state_at s t k)
-        (done (process_at s.process t k) t (outcome_of (frames m) (process_at s.process t k) t (destination inst) stack (action_in m stack.frame inst)))
+      (done (process_at s.process t k) t (outcome_of (frames m) (process_at s.process t k) t (destination inst) stack (action_in m stack.frame inst)))
   steps-at k stack inst runs stands =
       ap (λ (b : Bool). unless_ended b (state_at s t k) (turned m (state_at s t k) t (slice_get (slice_set s.process.threads t k.thread) t))) going
       ∙ ap (λ (o : Option (Thread Frame)). turned m (state_at s t k) t o) (set-there s.process.threads t k.thread x at ∙ ap Some runs)
@@ -317,11 +317,11 @@ module _ (m : ModuleParts) (s : State) (t : ℕ) (x : Thread Frame) (at : slice_
       let next : Lone = lone_after m (destination inst) stack action old k in
       steps-at k stack inst runs stands
       ∙ ap (λ (o : Outcome Frame). settled (state_at s t k) (done (process_at s.process t k) t o))
-        (outcome-alone (frames m) (process_at s.process t k) t (destination inst) stack action by_itself
-        ∙ ap (λ (o : Option Cause). goes_unless o (effect_alone (frames m) (process_at s.process t k) (destination inst) stack action)) can)
+      (outcome-alone (frames m) (process_at s.process t k) t (destination inst) stack action by_itself
+      ∙ ap (λ (o : Option Cause). goes_unless o (effect_alone (frames m) (process_at s.process t k) (destination inst) stack action)) can)
       ∙ ap (λ (o : State). (o, Went)) (same-process _ _ _ _ _ _ (memory-seen m s.process.memory k.written t stack action old whole can)
-        (set-set s.process.threads t k.thread next.thread) refl
-        ∙ ap (λ (o : Lone). state_at s t o) (sym is))
+      (set-set s.process.threads t k.thread next.thread) refl
+      ∙ ap (λ (o : Lone). state_at s t o) (sym is))
   alone-step k l held free (OfMutex stack inst call runs stands asks can is) = by_call call (call-of (action_in m stack.frame inst) call asks) can is
     where
       owners : List (ℕ × ℕ)
@@ -330,10 +330,20 @@ module _ (m : ModuleParts) (s : State) (t : ℕ) (x : Thread Frame) (at : slice_
       here : WorldParts
       here = record s.process.world { owners = owners }
 
-      went : (world : WorldParts) → (record s { process = record { memory = view s.process.memory k.written;
-          threads = slice_set (slice_set s.process.threads t k.thread) t (called (frames m) (destination inst) stack 0); world = world } })
-          ≡ (record s { process = record { memory = view s.process.memory k.written;
-          threads = slice_set s.process.threads t (called (frames m) (destination inst) stack 0); world = world } })
+      went : (world : WorldParts) → (record s {
+        process = record {
+          memory = view s.process.memory k.written;
+          threads = slice_set (slice_set s.process.threads t k.thread) t (called (frames m) (destination inst) stack 0);
+          world = world;
+        };
+      })
+          ≡ (record s {
+            process = record {
+              memory = view s.process.memory k.written;
+              threads = slice_set s.process.threads t (called (frames m) (destination inst) stack 0);
+              world = world;
+            };
+          })
       went world = same-process _ _ _ _ _ _ refl (set-set s.process.threads t k.thread (called (frames m) (destination inst) stack 0)) refl
 
       by_call : (call : MutexCall) → IsCallOf (action_in m stack.frame inst) call → CanCall call k.held
@@ -355,8 +365,8 @@ module _ (m : ModuleParts) (s : State) (t : ℕ) (x : Thread Frame) (at : slice_
           ∙ ap (λ (action : Action). settled (state_at s t k) (done (process_at s.process t k) t (outcome_of (frames m) (process_at s.process t k) t (destination inst) stack action))) e
           ∙ ap (λ (o : Bool). settled (state_at s t k) (done (process_at s.process t k) t (replied (frames m) (process_at s.process t k) (destination inst) stack (unlocked o a here).0 (unlocked o a here).1))) mine
           ∙ ap (λ (o : State). (o, Went)) (went _ ∙ same-process _ _ _ _ _ _ refl refl
-            (ap (λ (os : List (ℕ × ℕ)). record s.process.world { owners = os }) (unlocked-one t k.held s.process.world.owners a held.distinct (λ b g. free b (earlier b then g)) own))
-            ∙ ap (λ (o : Lone). state_at s t o) (sym then))
+          (ap (λ (os : List (ℕ × ℕ)). record s.process.world { owners = os }) (unlocked-one t k.held s.process.world.owners a held.distinct (λ b g. free b (earlier b then g)) own))
+          ∙ ap (λ (o : Lone). state_at s t o) (sym then))
         where
           earlier : (b : ℕ) → l ≡ lone_called m (destination inst) stack (Unlocks a) k → has k.held b ≡ true → has l.locked b ≡ true
           earlier b then g = ap (λ (o : Lone). has o.locked b) then ∙ held.locked b g
@@ -382,7 +392,7 @@ solo m s t x zero l at going whole free ran = record {
 solo m s t x (suc n) l at going whole free (k, ran, st) =
     let before : Walked m s t n k = solo m s t x n k at going whole (λ a e. free a (locked-before m s.process.memory t k l st a e)) ran in
     let last : step m (state_at s t k) t ≡ (state_at s t l, Went) =
-        alone-step m s t x at going whole k l (ran-held m s.process.memory t x n k ran) free st in
+    alone-step m s t x at going whole k l (ran-held m s.process.memory t x n k ran) free st in
     record {
       state = ap (λ (turns : List ℕ). (run_from m s turns).state) (turn-last n t) ∙ state-append m s (replicate n t) (t ∷ [])
           ∙ ap (λ (now : State). (step m now t).0) before.state ∙ ap (λ (p : State × Step). p.0) last;
