@@ -25,16 +25,16 @@ in-globals (s ∷ ss) a n all any = by_test (in-globals ss a n) (lies_in s.start
     by_test later b inner false outer = let e : false ≡ true = sym (ap (λ (o : Bool). o && list_all (λ (span : Span). lies_in globals_start area_size span.start span.size) ss) outer) ∙ all in cc
     by_test later false inner true outer = later (sym (ap (λ (o : Bool). o && list_all (λ (span : Span). lies_in globals_start area_size span.start span.size) ss) outer) ∙ all) (sym (ap (λ (b : Bool). b || lies_in_global ss a n) inner) ∙ any)
 
-is-globals : (a : ℕ) → a < stacks_start → area_of a ≡ Globals
+pub is-globals : (a : ℕ) → a < stacks_start → area_of a ≡ Globals
 is-globals a below = let e : nat_lt a stacks_start ≡ true = grind (arith, nat_tests) in ap (λ (b : Bool). if b then Globals else if nat_lt a heap_start then Stacks else Heap) e
 
-is-stacks : (a : ℕ) → stacks_start ≤ a → a < heap_start → area_of a ≡ Stacks
+pub is-stacks : (a : ℕ) → stacks_start ≤ a → a < heap_start → area_of a ≡ Stacks
 is-stacks a from below =
     let e : nat_lt a stacks_start ≡ false = grind (arith, nat_tests) in
     let f : nat_lt a heap_start ≡ true = grind (arith, nat_tests) in
     ap (λ (b : Bool). if b then Globals else if nat_lt a heap_start then Stacks else Heap) e ∙ ap (λ (b : Bool). if b then Stacks else Heap) f
 
-is-heap : (a : ℕ) → heap_start ≤ a → area_of a ≡ Heap
+pub is-heap : (a : ℕ) → heap_start ≤ a → area_of a ≡ Heap
 is-heap a from =
     let e : nat_lt a stacks_start ≡ false = grind (arith, nat_tests) in
     let f : nat_lt a heap_start ≡ false = grind (arith, nat_tests) in

@@ -1,8 +1,15 @@
+pub mod AccessLines
+pub mod Agreement
 mod AreaBytes
 pub mod Inside
 pub mod Laws
 pub mod Lengths
+pub mod LineBuffers
 mod NumberBytes
 pub mod Placed
 mod Records
+mod Spliced
+pub mod ViewBytes
+pub mod Views
+pub mod WholeOpening
 mod Words

@@ -1,49 +1,29 @@
 -- A word among the bytes of one area: written, read back, read beside a write, and two words written side by side.
-use Rattle.std.proofs.Common.{◌≡◌, ℕ, zero, suc, ◌+◌, ◌-◌, ◌*◌, ◌^◌, ◌<◌, ◌≤◌, List, ◌++◌, length, take, drop, get_or, slice_index, refl, sym, ap, ◌∙◌, arith, inl, inr}
+use Rattle.std.proofs.Common.{◌≡◌, ℕ, zero, suc, ◌+◌, ◌-◌, ◌*◌, ◌^◌, ◌<◌, ◌≤◌, List, ◌++◌, length, take, drop, slice_index, refl, sym, ap, ◌∙◌, arith, inl, inr}
 use Rattle.std.specs.Prelude.{◌⊎◌}
-use Rattle.std.proofs.Math.ListN.{get_or-append}
 use Rattle.std.proofs.lemmas.Bool.{cases_lt}
-use Rattle.std.proofs.lemmas.List.{append_assoc, drop_at, ext_get_or, get_or-append-add, get_or-drop, get_or-take, length-append, length-drop, length-take-le}
+use Rattle.std.proofs.lemmas.List.{append_assoc, drop_at, ext_get_or, get_or-drop, length-take-le}
 use Rattle.byteorder.specs.Endian.{little_number, little_from, little_bytes}
 use Rattle.byteorder.specs.Numbers.{length-bytes_low_first, little_number-reads_back}
 use Rattle.mem_image.specs.Bytes.{word_at, with_word}
+use Rattle.mem_image.proofs.Spliced.{length-spliced, spliced-apart, spliced-inside}
 
 -- ---- each byte behind a write
 
-length-front : (bs : List ℕ) (at n v : ℕ) → at ≤ length bs → length (take at bs ++ little_bytes n v) ≡ at + n
-length-front bs at n v inside =
-    let e = length-append (take at bs) (little_bytes n v) in
-    let f : length (take at bs) ≡ at = length-take-le at bs inside in
-    let g : length (little_bytes n v) ≡ n = length-bytes_low_first 0 n v in
-    omega (arith, e, f, g)
+bytes-of : (n v : ℕ) → length (little_bytes n v) ≡ n
+bytes-of n v = length-bytes_low_first 0 n v
 
 -- there are as many bytes as before
 pub length_with_word : (bs : List ℕ) (at n v : ℕ) → at + n ≤ length bs → length (with_word bs at n v) ≡ length bs
-length_with_word bs at n v inside =
-    let e = length-append (take at bs ++ little_bytes n v) (drop (at + n) bs) in
-    let f = length-front bs at n v (omega arith) in
-    let g = length-drop (at + n) bs in
-    omega (arith, e, f, g)
+length_with_word bs at n v inside = length-spliced bs at n (little_bytes n v) (bytes-of n v) inside
 
 -- a byte beside the word is as before
-byte-apart : (bs : List ℕ) (at n v j : ℕ) → at + n ≤ length bs → (j < at) ⊎ (at + n ≤ j) → slice_index (with_word bs at n v) j ≡ slice_index bs j
-byte-apart bs at n v j inside (inl less) =
-    let e = length-front bs at n v (omega arith) in
-    let f : length (take at bs) ≡ at = length-take-le at bs (omega arith) in
-    get_or-append (take at bs ++ little_bytes n v) (drop (at + n) bs) 0 j (omega (arith, e)) ∙ get_or-append (take at bs) (little_bytes n v) 0 j (omega (arith, f)) ∙ get_or-take at bs j 0 less
-byte-apart bs at n v j inside (inr more) =
-    let e = length-front bs at n v (omega arith) in
-    let here : j ≡ length (take at bs ++ little_bytes n v) + (j - (at + n)) = omega (arith, e) in
-    let there : at + n + (j - (at + n)) ≡ j = omega arith in
-    ap (λ (k : ℕ). get_or (with_word bs at n v) k 0) here ∙ get_or-append-add (take at bs ++ little_bytes n v) (drop (at + n) bs) (j - (at + n)) 0 ∙ get_or-drop (at + n) bs (j - (at + n)) 0 ∙ ap (λ (k : ℕ). get_or bs k 0) there
+pub byte-apart : (bs : List ℕ) (at n v j : ℕ) → at + n ≤ length bs → (j < at) ⊎ (at + n ≤ j) → slice_index (with_word bs at n v) j ≡ slice_index bs j
+byte-apart bs at n v j inside apart = spliced-apart bs at n (little_bytes n v) (bytes-of n v) 0 j inside apart
 
 -- a byte of the word is the word's, whatever stood there
-byte-inside : (bs : List ℕ) (at n v j : ℕ) → at + n ≤ length bs → at ≤ j → j < at + n → slice_index (with_word bs at n v) j ≡ slice_index (little_bytes n v) (j - at)
-byte-inside bs at n v j inside from below =
-    let e = length-front bs at n v (omega arith) in
-    let f : length (take at bs) ≡ at = length-take-le at bs (omega arith) in
-    let here : j ≡ length (take at bs) + (j - at) = omega (arith, f) in
-    get_or-append (take at bs ++ little_bytes n v) (drop (at + n) bs) 0 j (omega (arith, e)) ∙ ap (λ (k : ℕ). get_or (take at bs ++ little_bytes n v) k 0) here ∙ get_or-append-add (take at bs) (little_bytes n v) (j - at) 0
+pub byte-inside : (bs : List ℕ) (at n v j : ℕ) → at + n ≤ length bs → at ≤ j → j < at + n → slice_index (with_word bs at n v) j ≡ slice_index (little_bytes n v) (j - at)
+byte-inside bs at n v j inside from below = spliced-inside bs at n (little_bytes n v) (bytes-of n v) 0 j inside from below
 
 -- ---- a word read behind a write
 
@@ -55,7 +35,7 @@ word_back bs at n v inside fits =
     ∙ ap (little_number n) (drop_at (take at bs) (little_bytes n v ++ drop (at + n) bs) at e) ∙ little_number-reads_back n v (drop (at + n) bs) fits
 
 -- the number in bytes that agree is the same
-agree : (m i : ℕ) (xs ys : List ℕ) → ((k : ℕ) → i ≤ k → k < i + m → slice_index xs k ≡ slice_index ys k) → little_from i m xs ≡ little_from i m ys
+pub agree : (m i : ℕ) (xs ys : List ℕ) → ((k : ℕ) → i ≤ k → k < i + m → slice_index xs k ≡ slice_index ys k) → little_from i m xs ≡ little_from i m ys
 agree zero i xs ys same = refl
 agree (suc m) i xs ys same =
     ap (λ (b : ℕ). b + 256 * little_from (suc i) m xs) (same i (omega arith) (omega arith))

@@ -1,4 +1,5 @@
 pub mod Accesses
+pub mod Agreement
 pub mod Bytes
 pub mod Laws
 pub mod Lines

@@ -4,7 +4,7 @@
 --
 -- Choices: a line has 64 bytes. Buffers stand in the order in which their lines were first written. They are lists, as code can be seen;
 -- what they mean is the bytes that were written, whatever their order.
-use Rattle.std.specs.Prelude.{ℕ, ◌+◌, ◌/◌, ◌%◌, Bool, true, false, nat_eq, List, [], ◌∷◌, ◌++◌, map, take, drop, replicate, Option, Some, None, slice_get}
+use Rattle.std.specs.Prelude.{ℕ, ◌≡◌, ◌+◌, ◌/◌, ◌%◌, Bool, true, false, nat_eq, List, [], ◌∷◌, ◌++◌, length, map, take, drop, replicate, Option, Some, None, slice_get}
 use Rattle.std.specs.List.{list_any, find}
 use Rattle.std.specs.Option.{option_and_then, option_flatten}
 use Rattle.byteorder.specs.Endian.{little_bytes}
@@ -40,6 +40,11 @@ opened_unless false lines number = lines ++ blank number ∷ []
 -- a line is among them: as it was, or else the last, with nothing written
 abbrev pub opened : List Line → ℕ → List Line
 opened lines number = opened_unless (is_open lines number) lines number
+
+-- each line is among them once, with a place for each of its bytes
+abbrev pub AreLines : List Line → Type 0
+AreLines [] = Unit {0}
+AreLines (line ∷ lines) = (length line.bytes ≡ line_size) × (is_open lines line.number ≡ false) × AreLines lines
 
 -- ---- a word is written
 
