@@ -1,6 +1,5 @@
 -- Points over another memory: what a thread rests on, and that its points stand where that stays.
-use Rattle.std.proofs.Common.{ℕ, ◌≡◌, ◌∙◌, Bool, true, false, List, [], ◌∷◌, Option, Some, None, refl, ap, sym, subst}
-use Rattle.ir_core.specs.declared.types.Loc.{Loc}
+use Rattle.std.proofs.Common.{ℕ, ◌≡◌, ◌∙◌, Bool, true, false, List, Option, Some, refl, sym, subst}
 use Rattle.ir_core.specs.declared.values.Side.TheVariants.{M, S}
 use Rattle.ir_core.specs.declared.instruction.Inst.{Inst}
 use Rattle.ir_core.specs.Module.{ModuleParts}

@@ -3,7 +3,6 @@
 -- Choices: each thread has its own sides; that one at most is hurt need not be known. A hurt thread is at one named side, or lost: only checks
 -- come, and one of them fails. What a transaction kept stands over any memory, since a `begin` stands before an image.
 use Rattle.std.proofs.Common.{ℕ, ◌≡◌, ◌≢◌, ◌⊎◌, ◌∙◌, ◌+◌, Bool, true, false, ◌||◌, List, [], ◌∷◌, length, Option, Some, None, slice_get, refl, ap, sym, subst, inl, inr}
-use Rattle.std.specs.List.{All}
 use Rattle.ir_core.specs.declared.types.Ty.{Ty}
 use Rattle.ir_core.specs.declared.types.Ty.TheVariants as types
 use Rattle.ir_core.specs.declared.types.Loc.{Loc}
@@ -12,15 +11,14 @@ use Rattle.ir_core.specs.declared.types.Width.TheVariants.{W64}
 use Rattle.ir_core.specs.declared.values.Val.{Val}
 use Rattle.ir_core.specs.declared.values.Val.TheVariants as values
 use Rattle.ir_core.specs.Module.{ModuleParts}
-use Rattle.ir_layout.specs.declared.spans.Span.{Span}
 use Rattle.ir_layout.specs.Memory.{layout_of, is_valid}
 use Rattle.mem_image.specs.Accesses.{bytes}
 use Rattle.mem_image.specs.Agreement.{AgreeOn, AgreeOutside}
-use Rattle.mem_image.specs.Bytes.{Memory, IsWhole, peek}
-use Rattle.mem_image.specs.Lines.{Line, AreLines, line_of}
+use Rattle.mem_image.specs.Bytes.{Memory, IsWhole}
+use Rattle.mem_image.specs.Lines.{AreLines, line_of}
 use Rattle.mem_image.proofs.AccessLines.{same-line}
 use Rattle.line_sets.specs.Sets.{has}
-use Rattle.rtm_core.specs.Footprint.{Footprint, written_lines, written_by, seen_through}
+use Rattle.rtm_core.specs.Footprint.{written_by, seen_through}
 use Rattle.inst_meaning.specs.declared.actions.Place.{Place}
 use Rattle.inst_meaning.specs.declared.actions.Action.{Action}
 use Rattle.inst_meaning.specs.Action.{place_at}
@@ -40,7 +38,7 @@ use Rattle.hard_ir.specs.Image.{on_shadow}
 use Rattle.hard_ir.specs.Hardened.{HardParts}
 use Rattle.hard_frames.specs.declared.state.Frame.{Frame}
 use Rattle.hard_simulation.specs.Meaning.{AllWent, code_of}
-use Rattle.hard_simulation.proofs.Sides.{Sides, Both, Alone, IsHurt}
+use Rattle.hard_simulation.proofs.Sides.{Sides, Both, IsHurt}
 use Rattle.hard_simulation.proofs.Points.{hard_code}
 use Rattle.hard_meaning.specs.State.{Transaction, Mode, Free, Inside, Worker, Upset, Struck, State}
 use Rattle.hard_meaning.specs.Aborts.{Status, Conflict, Claim, aborted_from, aborted, is_in_the_way, aborted_if, spared}
@@ -51,7 +49,7 @@ use Rattle.tx_simulation.proofs.Walks.{Lone, Ran, AgreeOnAll, AllValid, frame, r
 use Rattle.tx_simulation.proofs.Points.{wrote, touched, IsStored, checks_onto, IsThreadOn}
 use Rattle.tx_simulation.proofs.Lines.{AreApart}
 use Rattle.tx_simulation.proofs.Races.{next_of}
-use Rattle.tx_simulation.proofs.Again.{AreAlike, valid-again, stored-again, thread-again}
+use Rattle.tx_simulation.proofs.Again.{AreAlike, stored-again, thread-again}
 
 -- ---- a thread inside
 

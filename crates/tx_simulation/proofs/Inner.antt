@@ -1,22 +1,21 @@
 -- A thread inside: how far it has got, apart from where its frames stand; and what a turn more comes to.
-use Rattle.std.proofs.Common.{ℕ, zero, suc, ◌≡◌, ◌≢◌, ◌⊎◌, ◌∙◌, ◌+◌, ◌-◌, ◌<◌, ◌≤◌, Bool, true, false, ◌||◌, List, [], ◌∷◌, ◌++◌, length, replicate, Option, Some, None, slice_get, refl, ap, sym, subst, arith, inl, inr, ⊎_elim, nat_eq, eqb-true}
+use Rattle.std.proofs.Common.{ℕ, ◌≡◌, ◌∙◌, Bool, true, false, ◌||◌, List, [], ◌∷◌, ◌++◌, length, replicate, Option, Some, None, slice_get, refl, ap, sym, subst, inl, ⊎_elim, nat_eq, eqb-true}
 use mathlib.Core.Path.{fun_ext}
 use Rattle.std.specs.List.{cons_option}
-use Rattle.std.proofs.lemmas.Bool.{cases_lt, cases_eq}
+use Rattle.std.proofs.lemmas.Bool.{cases_eq}
 use Rattle.ir_core.specs.declared.instruction.Inst.{Inst}
 use Rattle.ir_core.specs.Module.{ModuleParts}
 use Rattle.ir_layout.specs.declared.spans.Span.{Span}
 use Rattle.ir_layout.specs.Memory.{is_valid}
-use Rattle.mem_image.specs.Accesses.{bytes}
 use Rattle.mem_image.specs.Bytes.{Memory, IsWhole}
-use Rattle.mem_image.specs.Lines.{AreLines, line_of, lines_after, written_in}
+use Rattle.mem_image.specs.Lines.{AreLines, line_of}
 use Rattle.mem_image.specs.Touches.{Touch, Store, stored_with}
 use Rattle.mem_image.specs.Views.{Written, stored, view}
 use Rattle.mem_image.proofs.Agreement.{other-line}
 use Rattle.mem_image.proofs.LineBuffers.{access-writes_nothing, access-writes, access-kept}
 use Rattle.mem_image.proofs.ViewBytes.{stored-apart}
 use Rattle.line_sets.specs.Sets.{has}
-use Rattle.rtm_core.specs.Footprint.{Footprint, written_by, seen_through, touched_by}
+use Rattle.rtm_core.specs.Footprint.{written_by, seen_through}
 use Rattle.inst_meaning.specs.declared.actions.Cause.{Cause}
 use Rattle.inst_meaning.specs.declared.actions.Place.{Place}
 use Rattle.inst_meaning.specs.declared.actions.Action.{Action}
@@ -28,7 +27,7 @@ use Rattle.process.specs.declared.state.Thread.{Thread}
 use Rattle.process.specs.declared.state.Thread.TheVariants.{Running}
 use Rattle.process.specs.declared.state.Step.{Step}
 use Rattle.process.specs.declared.state.Step.TheVariants.{Undefined}
-use Rattle.process.specs.Outcome.{failure, thread_after, touch_at, touch_of, store_at, store_of, called, goes_unless, effect_alone}
+use Rattle.process.specs.Outcome.{failure, thread_after, touch_at, touch_of, store_of, called, goes_unless, effect_alone}
 use Rattle.process.specs.Process.{done}
 use Rattle.process_laws.specs.Alone.{IsAlone}
 use Rattle.process_laws.proofs.Locality.{valid_where_done}
@@ -39,16 +38,16 @@ use Rattle.src_meaning.specs.Runs.{source, run_from}
 use Rattle.src_meaning.specs.Races.{IsGood}
 use Rattle.hard_ir.specs.Hardened.{HardParts}
 use Rattle.hard_frames.specs.declared.state.Frame.{Frame}
-use Rattle.hard_simulation.proofs.Sides.{Sides, IsHurt}
+use Rattle.hard_simulation.proofs.Sides.{Sides}
 use Rattle.hard_simulation.proofs.Turns.{state-append, answers-more}
 use Rattle.hard_meaning.specs.State.{Transaction, Mode, Free, Inside, seen_in}
-use Rattle.hard_meaning.specs.Effects.{footprint_after, transaction_after}
+use Rattle.hard_meaning.specs.Effects.{transaction_after}
 use Rattle.hard_meaning.specs.Locks.{MutexCall, Locks, Unlocks, mutex_call, watching}
 use Rattle.tx_simulation.proofs.Owners.{AreFree}
-use Rattle.tx_simulation.proofs.Walks.{Lone, lone_start, lone_after, lone_called, CanCall, held_after, locked_after, ByItself, OfMutex, Ran, outcome-alone, state_at, process_at, steps-at, Walked, solo}
+use Rattle.tx_simulation.proofs.Walks.{Lone, lone_after, lone_called, CanCall, held_after, ByItself, OfMutex, Ran, outcome-alone, state_at, process_at, steps-at, Walked, solo}
 use Rattle.tx_simulation.proofs.Points.{wrote, touched, IsThreadOn}
 use Rattle.tx_simulation.proofs.Lines.{wrote-keeps, wrote-own, touched-keeps, touched-own, member-has, member-keeps}
-use Rattle.tx_simulation.proofs.Facts.{AllTouched, AreWritten, IsInside, back_to, InTx, OkIn, Facts}
+use Rattle.tx_simulation.proofs.Facts.{AllTouched, AreWritten, IsInside, back_to, InTx, OkIn}
 
 -- ---- what an access adds
 

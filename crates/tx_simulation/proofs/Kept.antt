@@ -1,10 +1,10 @@
 -- What an effect of one thread's turn keeps of the whole machine: where the source stays, and where it goes on by turns of that thread.
-use Rattle.std.proofs.Common.{ℕ, zero, suc, ◌≡◌, ◌≢◌, ◌∙◌, ◌+◌, Bool, true, false, ◌||◌, List, [], ◌∷◌, ◌++◌, length, replicate, map, Option, Some, None, slice_get, slice_set, refl, ap, sym, subst, arith}
+use Rattle.std.proofs.Common.{ℕ, zero, suc, ◌≡◌, ◌≢◌, ◌∙◌, ◌+◌, Bool, true, false, ◌||◌, List, [], ◌∷◌, ◌++◌, length, replicate, map, Option, Some, None, slice_get, slice_set, refl, ap, sym, subst}
 use Rattle.std.specs.Option.{option_map}
 use Rattle.std.proofs.lemmas.List.{length-set, length-map, length-append}
 use Rattle.std.proofs.lemmas.Option.{slice_get-map}
 use Rattle.ir_core.specs.Module.{ModuleParts}
-use Rattle.mem_image.specs.Bytes.{Memory, IsWhole}
+use Rattle.mem_image.specs.Bytes.{Memory}
 use Rattle.line_sets.specs.Sets.{has}
 use Rattle.process.specs.declared.state.Thread.{Thread}
 use Rattle.process.specs.declared.state.Step.{Step}
@@ -18,12 +18,12 @@ use Rattle.src_meaning.specs.Runs.{source, run_from}
 use Rattle.hard_ir.specs.Hardened.{HardParts}
 use Rattle.hard_simulation.specs.Meaning.{AllWent, code_of}
 use Rattle.hard_simulation.proofs.Turns.{state-append, answers-append}
-use Rattle.hard_meaning.specs.State.{Transaction, Mode, Free, Inside, Worker, Upset, Struck, new_worker}
+use Rattle.hard_meaning.specs.State.{Mode, Free, Inside, Worker, Upset}
 use Rattle.hard_meaning.specs.Aborts.{Status, Conflict, Claim, aborted_from, aborted, is_in_the_way, aborted_if, spared}
 use Rattle.hard_meaning.specs.Records.{carries, struck_in}
 use Rattle.tx_simulation.proofs.Owners.{AreFree}
 use Rattle.tx_simulation.proofs.Points.{wrote, touched}
-use Rattle.tx_simulation.proofs.Lines.{or-left, AreApart, never-both}
+use Rattle.tx_simulation.proofs.Lines.{AreApart, never-both}
 use Rattle.tx_simulation.proofs.Races.{next_of}
 use Rattle.tx_simulation.proofs.Facts.{IsWorker, worker-spared, worker-again, Changes, IsRested, mode_of, mode_at, watched_in, AreNamed, AreWorkers, Facts}
 

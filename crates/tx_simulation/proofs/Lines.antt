@@ -1,14 +1,13 @@
 -- Lines that a transaction touched, once it has done an access more; and what an access tells of transactions that it spares.
-use Rattle.std.proofs.Common.{ℕ, ◌≡◌, ◌≢◌, ◌⊎◌, ◌∙◌, Bool, true, false, ◌||◌, ◌&&◌, List, [], ◌∷◌, ◌++◌, map, Option, Some, None, refl, ap, sym, inl, inr, ⊎_elim, nat_eq, eq-eqb, eqb-true, true≢false}
-use Rattle.std.specs.List.{list_any}
+use Rattle.std.proofs.Common.{ℕ, ◌≡◌, ◌⊎◌, ◌∙◌, Bool, true, false, ◌||◌, ◌&&◌, List, [], ◌∷◌, ◌++◌, Option, Some, None, refl, ap, sym, inl, inr, ⊎_elim, nat_eq, eq-eqb, eqb-true, true≢false}
 use Rattle.std.proofs.lemmas.Bool.{or_cases}
-use Rattle.mem_image.specs.Lines.{Line, line_of, numbers, blank, is_open, opened_unless, opened, stored_if, stored_in, lines_with, opened_where, lines_after}
+use Rattle.mem_image.specs.Lines.{Line, line_of, numbers, blank, is_open, opened_unless, opened, stored_if, lines_with, opened_where, lines_after}
 use Rattle.mem_image.specs.Touches.{Touch, Store, stored_with}
 use Rattle.line_sets.specs.Sets.{has, added_unless, with_member}
-use Rattle.rtm_core.specs.Footprint.{Footprint, written_lines, conflicts, read_after, touched_by}
+use Rattle.rtm_core.specs.Footprint.{written_lines, conflicts, read_after}
 use Rattle.hard_meaning.specs.State.{Transaction, Mode, Free, Inside}
-use Rattle.hard_meaning.specs.Aborts.{Claim, is_in_the_way, meets_touch, meets_mutex}
-use Rattle.hard_meaning.specs.Effects.{footprint_after, transaction_after}
+use Rattle.hard_meaning.specs.Aborts.{is_in_the_way, meets_mutex}
+use Rattle.hard_meaning.specs.Effects.{transaction_after}
 use Rattle.tx_simulation.proofs.Points.{wrote, touched}
 
 -- ---- Bools

@@ -1,10 +1,9 @@
 -- Owners of mutexes once one thread has locked some more, and what becomes of them as it unlocks one.
-use Rattle.std.proofs.Common.{ℕ, ◌≡◌, ◌≢◌, ◌∙◌, ◌<◌, Bool, true, false, not, ◌||◌, List, [], ◌∷◌, filter, Option, Some, None, refl, ap, sym, arith, ⊎_elim, nat_eq, eq-eqb, ne_eqb, eqb-true, lt-ltb, le-ltb, true≢false}
-use Rattle.std.specs.Ordering.{nat_cmp, match_ordering}
-use Rattle.std.specs.declared.cmp.Ordering.{Ordering}
+use Rattle.std.proofs.Common.{ℕ, ◌≡◌, ◌≢◌, ◌∙◌, ◌<◌, Bool, true, false, ◌||◌, List, [], ◌∷◌, Some, None, refl, ap, sym, arith, ⊎_elim, nat_eq, eq-eqb, ne_eqb, eqb-true, lt-ltb, le-ltb}
+use Rattle.std.specs.Ordering.{nat_cmp}
 use Rattle.std.specs.declared.cmp.Ordering.TheVariants.{Less, Equal, Greater}
 use Rattle.std.specs.BTreeMap.{insert_entry, is_at}
-use Rattle.std.specs.Map.{lookup, remove_entry}
+use Rattle.std.specs.Map.{remove_entry}
 use Rattle.std.proofs.lemmas.Bool.{cases_lt, cases_eq, eqb-false}
 use Rattle.inst_meaning.specs.World.{owner_of}
 use Rattle.line_sets.specs.Sets.{has}

@@ -4,7 +4,7 @@
 -- Choices: a point holds for named sides, both or one. What is known without a side was checked, or was just made, and the rule of windows
 -- says where it can be lost. Outside a transaction and inside it is one relation, with the mode as a parameter. Files agree in the
 -- names of the source's function; the names that check edges are of the hardened program alone.
-use Rattle.std.proofs.Common.{ℕ, ◌≡◌, ◌⊎◌, ◌∙◌, Bool, true, false, ◌||◌, ◌<◌, List, [], ◌∷◌, ◌++◌, take, drop, reverse, Option, Some, None, slice_get, refl, ap, sym, subst}
+use Rattle.std.proofs.Common.{ℕ, ◌≡◌, ◌⊎◌, Bool, true, false, ◌||◌, ◌<◌, List, [], ◌∷◌, ◌++◌, take, reverse, Option, Some, None, slice_get}
 use Rattle.std.specs.Option.{option_map, option_map_or}
 use Rattle.std.specs.List.{flat_map}
 use Rattle.ir_core.specs.declared.types.Ty.{Ty}
@@ -15,14 +15,13 @@ use Rattle.ir_core.specs.declared.types.Width.TheVariants.{W64}
 use Rattle.ir_core.specs.declared.values.Val.{Val}
 use Rattle.ir_core.specs.declared.values.Side.TheVariants.{M, S}
 use Rattle.ir_core.specs.declared.instruction.Inst.{Inst}
-use Rattle.ir_core.specs.Module.{ModuleParts, FuncParts}
-use Rattle.ir_layout.specs.declared.spans.Span.{Span}
+use Rattle.ir_core.specs.Module.{ModuleParts}
 use Rattle.ir_layout.specs.Memory.{layout_of, is_valid}
 use Rattle.mem_image.specs.Accesses.{bytes}
 use Rattle.mem_image.specs.Bytes.{Memory, peek}
 use Rattle.mem_image.specs.Lines.{line_of}
 use Rattle.line_sets.specs.Sets.{has}
-use Rattle.rtm_core.specs.Footprint.{Footprint, written_lines}
+use Rattle.rtm_core.specs.Footprint.{written_lines}
 use Rattle.inst_meaning.specs.declared.actions.Place.{Place}
 use Rattle.inst_meaning.specs.declared.actions.Action.{Action}
 use Rattle.inst_meaning.specs.declared.actions.Action.TheVariants.{Assign, Reserve, Read, Write, Update, Pass, Jump, Call, Ask, Create, Join, Exit, Return, Fault}
@@ -31,7 +30,6 @@ use Rattle.inst_meaning.specs.Operands.{memory_width, word_at}
 use Rattle.inst_meaning.specs.Registers.{get, put}
 use Rattle.process.specs.declared.state.CallStack.{CallStack}
 use Rattle.process.specs.declared.state.Thread.{Thread}
-use Rattle.process.specs.declared.state.Thread.TheVariants.{Running, Exiting, Ended}
 use Rattle.process_laws.proofs.Likeness.{Likeness}
 use Rattle.process_laws.proofs.Likeness as likeness
 use Rattle.src_meaning.specs.declared.state.Frame.{Frame as SourceFrame}
@@ -39,18 +37,18 @@ use Rattle.hard_ir.specs.declared.instruction.When.{When}
 use Rattle.hard_ir.specs.declared.instruction.When.TheVariants.{Always, Tx}
 use Rattle.hard_ir.specs.declared.instruction.HInst.{HInst}
 use Rattle.hard_ir.specs.declared.instruction.HInst.TheVariants.{Do, ChkMem, End}
-use Rattle.hard_ir.specs.Image.{unflagged, copies, copy_of, is_done_twice, checked_before, checked_when, check_when, core, checks_after, body_of, on_shadow}
+use Rattle.hard_ir.specs.Image.{unflagged, copies, is_done_twice, checked_before, checked_when, check_when, core, checks_after, body_of, on_shadow}
 use Rattle.hard_ir.specs.Images.{LooseRows, is_named}
 use Rattle.hard_ir.specs.EdgeChecks.{edge_check}
 use Rattle.hard_ir.specs.Hardened.{HardParts}
 use Rattle.hard_frames.specs.declared.state.Frame.{Frame}
 use Rattle.hard_frames.specs.Code.{blocks_at, list_at}
 use Rattle.hard_simulation.specs.Image.{copies_onto}
-use Rattle.hard_simulation.proofs.Sides.{Sides, Both, Alone, On, IsHurt, on-map}
+use Rattle.hard_simulation.proofs.Sides.{Sides, Both, On}
 use Rattle.hard_simulation.proofs.Files.{AreFresh, is_among}
 use Rattle.hard_simulation.proofs.Instructions.{AreSame}
 use Rattle.hard_simulation.proofs.Points.{source_code, hard_code}
-use Rattle.hard_meaning.specs.State.{Transaction, Mode, Free, Inside, is_inside}
+use Rattle.hard_meaning.specs.State.{Mode, Free, Inside, is_inside}
 use Rattle.hard_meaning.specs.Windows.{is_effect, is_edge_checked}
 
 -- ---- lines of a mode

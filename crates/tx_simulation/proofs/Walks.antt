@@ -3,9 +3,9 @@
 --
 -- Choices: such a run knows no owners of mutexes: it locks what it doesn't hold and unlocks what it holds. That what it ever locked has no
 -- owner is asked where the run becomes the source's.
-use Rattle.std.proofs.Common.{ℕ, zero, suc, ◌≡◌, ◌≢◌, ◌∙◌, ◌+◌, ◌<◌, Bool, true, false, ◌||◌, List, [], ◌∷◌, ◌++◌, length, Option, Some, None, slice_get, slice_set, replicate, refl, ap, sym, subst, arith, nat_eq, eq-eqb}
+use Rattle.std.proofs.Common.{ℕ, zero, suc, ◌≡◌, ◌∙◌, ◌+◌, Bool, true, false, ◌||◌, List, [], ◌∷◌, ◌++◌, Option, Some, None, slice_get, slice_set, replicate, refl, ap, sym, subst, nat_eq, eq-eqb}
 use Rattle.std.specs.List.{cons_option}
-use Rattle.std.specs.Option.{option_map, is_some}
+use Rattle.std.specs.Option.{option_map}
 use Rattle.std.specs.Prelude.{unwrap_or}
 use Rattle.std.proofs.lemmas.List.{set-set}
 use Rattle.ir_core.specs.declared.types.Loc.{Loc}
@@ -14,9 +14,9 @@ use Rattle.ir_core.specs.Module.{ModuleParts}
 use Rattle.ir_layout.specs.declared.spans.Span.{Span}
 use Rattle.ir_layout.specs.Memory.{is_valid}
 use Rattle.mem_image.specs.Accesses.{bytes}
-use Rattle.mem_image.specs.Agreement.{byte_at, AgreeOn}
+use Rattle.mem_image.specs.Agreement.{AgreeOn}
 use Rattle.mem_image.specs.Bytes.{Memory, IsWhole, peek}
-use Rattle.mem_image.specs.Touches.{Store, stored_with, memory_with}
+use Rattle.mem_image.specs.Touches.{stored_with, memory_with}
 use Rattle.mem_image.specs.Views.{Written, nothing_written, stored, view}
 use Rattle.mem_image.proofs.Agreement.{peek-agrees}
 use Rattle.mem_image.proofs.Views.{view-byte, view-whole, view-stored, view-nothing}
@@ -36,7 +36,7 @@ use Rattle.process.specs.declared.state.Step.{Step}
 use Rattle.process.specs.declared.state.Step.TheVariants.{Went}
 use Rattle.process.specs.Frames.{Frames}
 use Rattle.process.specs.State.{ProcessParts}
-use Rattle.process.specs.Outcome.{Outcome, Goes, Effect, failure, thread_after, store_of, alone, goes_unless, effect_alone, called, outcome_of, replied}
+use Rattle.process.specs.Outcome.{Outcome, failure, thread_after, store_of, alone, goes_unless, effect_alone, called, outcome_of, replied}
 use Rattle.process.specs.Process.{done}
 use Rattle.process_laws.specs.Alone.{IsAlone}
 use Rattle.process_laws.specs.Locality.{AgreeAt, IsValidAt}
@@ -47,7 +47,7 @@ use Rattle.src_meaning.specs.Step.{frames, action_in, settled, fetched, turned, 
 use Rattle.src_meaning.specs.Runs.{run_from}
 use Rattle.hard_simulation.proofs.Turns.{state-append, answers-append}
 use Rattle.hard_meaning.specs.Locks.{MutexCall, Locks, Unlocks, mutex_call, without}
-use Rattle.tx_simulation.proofs.Owners.{owners_with, AreDistinct, AreFree, not-held, is-held, without-absent, has-without, distinct-without, unlocked-one}
+use Rattle.tx_simulation.proofs.Owners.{owners_with, AreDistinct, AreFree, not-held, is-held, has-without, distinct-without, unlocked-one}
 
 -- ---- what a thread alone has come to
 
