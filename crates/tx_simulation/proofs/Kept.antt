@@ -49,13 +49,13 @@ pub record IsWithin (a b : Mode) : Type 0 where
   pub touched : (line : ℕ) → touched a line ≡ true → touched b line ≡ true
   pub watched : (address : ℕ) → has (watched_in a) address ≡ true → has (watched_in b) address ≡ true
 
-within-same : (mode : Mode) → IsWithin mode mode
+pub within-same : (mode : Mode) → IsWithin mode mode
 within-same mode = record { wrote = λ line e. e; touched = λ line e. e; watched = λ a e. e }
 
-within-free : (plain : Bool) (mode : Mode) → IsWithin (Free plain) mode
+pub within-free : (plain : Bool) (mode : Mode) → IsWithin (Free plain) mode
 within-free plain mode = record { wrote = λ line e. cc; touched = λ line e. cc; watched = λ a e. cc }
 
-within-aborted : (status : Status) (w : Worker) (mode : Mode) → w.mode ≡ mode → IsWithin (aborted_from status w mode).mode mode
+pub within-aborted : (status : Status) (w : Worker) (mode : Mode) → w.mode ≡ mode → IsWithin (aborted_from status w mode).mode mode
 within-aborted status w (Free plain) e = subst (λ (k : Mode). IsWithin k (Free plain)) (sym e) (within-same (Free plain))
 within-aborted status w (Inside tx) e = within-free false (Inside tx)
 

@@ -7,3 +7,6 @@ pub mod Owners
 pub mod Points
 pub mod Races
 pub mod Walks
+pub mod Holds
+pub mod Acts
+pub mod Commits

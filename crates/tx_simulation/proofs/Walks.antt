@@ -304,7 +304,7 @@ module _ (m : ModuleParts) (s : State) (t : ℕ) (x : Thread Frame) (at : slice_
       ∙ ap (λ (o : Option (Thread Frame)). turned m (state_at s t k) t o) (set-there s.process.threads t k.thread x at ∙ ap Some runs)
       ∙ ap (λ (o : Option Inst). fetched m (state_at s t k) t stack o) stands
 
-  same-process : (a b : Memory) (xs ys : List (Thread Frame)) (w v : WorldParts) → a ≡ b → xs ≡ ys → w ≡ v
+  pub same-process : (a b : Memory) (xs ys : List (Thread Frame)) (w v : WorldParts) → a ≡ b → xs ≡ ys → w ≡ v
       → (record s { process = record { memory = a; threads = xs; world = w } }) ≡ (record s { process = record { memory = b; threads = ys; world = v } })
   same-process a b xs ys w v e f g = rw (e, f, g) refl
 
