@@ -1,15 +1,12 @@
 -- A thread ends its transaction: its own turns become the source's, what it wrote becomes memory, and what struck it stands.
 use Rattle.std.proofs.Common.{ℕ, ◌≡◌, ◌≢◌, ◌⊎◌, ◌∙◌, Bool, true, false, ◌||◌, List, [], ◌∷◌, ◌++◌, replicate, Option, Some, None, slice_get, slice_set, refl, ap, sym, subst, inl, inr, ⊎_elim, nat_eq}
-use Rattle.std.specs.Option.{option_map}
-use Rattle.std.specs.Prelude.{unwrap_or}
 use Rattle.std.proofs.lemmas.Bool.{or_cases}
 use Rattle.ir_core.specs.Module.{ModuleParts}
-use Rattle.mem_image.specs.Agreement.{byte_at}
 use Rattle.mem_image.specs.Accesses.{bytes}
-use Rattle.mem_image.specs.Bytes.{Memory, peek}
-use Rattle.mem_image.specs.Lines.{line_of}
+use Rattle.mem_image.specs.Bytes.{peek}
 use Rattle.mem_image.specs.Views.{Written, view}
-use Rattle.mem_image.proofs.Views.{view-byte, view-whole}
+use Rattle.mem_image.proofs.Agreement.{view-lines}
+use Rattle.mem_image.proofs.Views.{view-whole}
 use Rattle.line_sets.specs.Sets.{has}
 use Rattle.rtm_core.specs.Footprint.{written_by, seen_through}
 use Rattle.process.specs.declared.state.Thread.{Thread}
@@ -33,7 +30,7 @@ use Rattle.tx_simulation.proofs.Points.{wrote, touched}
 use Rattle.tx_simulation.proofs.Lines.{AreApart, or-left, or-right, never-both}
 use Rattle.tx_simulation.proofs.Races.{next_of, walk-leaves}
 use Rattle.tx_simulation.proofs.Again.{AreAlike}
-use Rattle.tx_simulation.proofs.Facts.{IsWorker, IsCarried, OkIn, AreWritten, Changes, IsRested, mode_of, watched_in, AreNamed, Facts, machine_of}
+use Rattle.tx_simulation.proofs.Facts.{IsCarried, OkIn, Changes, IsRested, mode_of, watched_in, AreNamed, Facts, machine_of}
 use Rattle.tx_simulation.proofs.Kept.{within-free, GoesOn, goes-kept}
 use Rattle.tx_simulation.proofs.Inner.{Link, LinkAt}
 use Rattle.tx_simulation.proofs.Holds.{Holds, Runs, no_claim, map-none, spared-none, moves, aborts}
@@ -57,12 +54,6 @@ carried-from hits struck k e = ⊎_elim
     (λ f. ⊎_elim (λ g. or-right (has hits k) (has struck k) g) (λ g. or-left (has hits k) (has struck k) g)
     (or_cases (has struck k) (has hits k) (sym (has-either struck hits k) ∙ f)))
     (λ f. absurd (never-both false refl f)) (or_cases (has (struck ++ hits) k) false e)
-
--- ---- what was written
-
-unwritten : (written : Written) (o : Option ℕ) (at : ℕ) → written at ≡ None → o ≡ option_map (unwrap_or (written at)) o
-unwritten written None at none = refl
-unwritten written (Some byte) at none = ap (λ (w : Option ℕ). Some (unwrap_or w byte)) (sym none)
 
 is-empty : (held : List ℕ) → is_empty held ≡ true → held ≡ []
 is-empty [] e = refl
@@ -106,13 +97,8 @@ module _ (m : ModuleParts) (h : HardParts) (arguments : List ℕ) (good : IsGood
       places = refl;
       before = facts.whole;
       after = view-whole s.process.memory (written_by tx.footprint) facts.whole;
-      outside = λ address off. unwritten (written_by tx.footprint) (byte_at s.process.memory address) address
-          (not-written address off (written_by tx.footprint address) refl) ∙ sym (view-byte s.process.memory (written_by tx.footprint) address);
+      outside = view-lines changed s.process.memory (written_by tx.footprint) link.writes;
     }
-      where
-        not-written : (address : ℕ) → (changed (line_of address) → ⊥) → (o : Option ℕ) → written_by tx.footprint address ≡ o → written_by tx.footprint address ≡ None
-        not-written address off None e = e
-        not-written address off (Some byte) e = absurd (off (link.writes address byte e))
 
     -- the others rest on nothing that changed
     rested : (u : ℕ) (z : Thread SourceFrame) (w : Worker) → u ≢ t → slice_get s.process.threads u ≡ Some z → slice_get workers u ≡ Some w

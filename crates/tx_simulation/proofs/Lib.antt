@@ -10,3 +10,5 @@ pub mod Walks
 pub mod Holds
 pub mod Acts
 pub mod Commits
+pub mod Strangers
+pub mod Outside

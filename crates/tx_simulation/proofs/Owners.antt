@@ -11,12 +11,12 @@ use Rattle.hard_meaning.specs.Locks.{without}
 
 -- ---- how two addresses lie
 
-data Lies (a b : ℕ) : Type 0 where
+pub data Lies (a b : ℕ) : Type 0 where
   Below : a < b → nat_cmp a b ≡ Less → Lies a b
   Same : a ≡ b → nat_cmp a b ≡ Equal → Lies a b
   Above : b < a → nat_cmp a b ≡ Greater → Lies a b
 
-lies : (a b : ℕ) → Lies a b
+pub lies : (a b : ℕ) → Lies a b
 lies a b = ⊎_elim
     (λ less. Below less (rw (lt-ltb a b less) refl))
     (λ more. ⊎_elim
@@ -56,7 +56,7 @@ found-same ((b, u) ∷ owners) a t = by_order (lies a b) (found-same owners a t)
     by_order (Same same e) rest = rw (e, e) refl
     by_order (Above more e) rest = rw (e, e) rest
 
-found-other : (owners : Owners) (a b t : ℕ) → a ≢ b → owner_of (with_owner owners a t) b ≡ owner_of owners b
+pub found-other : (owners : Owners) (a b t : ℕ) → a ≢ b → owner_of (with_owner owners a t) b ≡ owner_of owners b
 found-other [] a b t ne = by_order (lies b a)
   where
     by_order : Lies b a → owner_of (with_owner [] a t) b ≡ None
