@@ -55,7 +55,7 @@ carried-from hits struck k e = ⊎_elim
     (or_cases (has struck k) (has hits k) (sym (has-either struck hits k) ∙ f)))
     (λ f. absurd (never-both false refl f)) (or_cases (has (struck ++ hits) k) false e)
 
-is-empty : (held : List ℕ) → is_empty held ≡ true → held ≡ []
+pub is-empty : (held : List ℕ) → is_empty held ≡ true → held ≡ []
 is-empty [] e = refl
 is-empty (a ∷ held) e = cc
 

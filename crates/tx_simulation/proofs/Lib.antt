@@ -12,3 +12,4 @@ pub mod Acts
 pub mod Commits
 pub mod Strangers
 pub mod Outside
+pub mod Leaving
