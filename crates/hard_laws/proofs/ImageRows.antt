@@ -145,8 +145,11 @@ module _ (m : ModuleParts) where
   ticked-row inst since work rest = let found = by_kind (leaves inst) in record { other = found.0; after = found.1; is = found.2 }
     where
       by_kind : (b : Bool) → (other : ℕ) × (after : ℕ) × (ticked since ((tick_if b work ++ placed m inst) ++ rest) ≡ (tick_if b other ++ placed m inst) ++ ticked after rest)
-      by_kind true = (since + to_ender (Tick work ∷ placed m inst ++ rest), since_all (suc since) (placed m inst),
-        ap (λ (items : List HInst). Tick (since + to_ender (Tick work ∷ placed m inst ++ rest)) ∷ items) (ticked-tickless (suc since) (placed m inst) rest (placed-tickless m inst)))
+      by_kind true = (
+        since + to_ender (Tick work ∷ placed m inst ++ rest),
+        since_all (suc since) (placed m inst),
+        ap (λ (items : List HInst). Tick (since + to_ender (Tick work ∷ placed m inst ++ rest)) ∷ items) (ticked-tickless (suc since) (placed m inst) rest (placed-tickless m inst)),
+      )
       by_kind false = (0, since_all since (placed m inst), ticked-tickless since (placed m inst) rest (placed-tickless m inst))
 
   -- so are points of cuts passed over
