@@ -1,28 +1,35 @@
--- Each item of the columns of masters and shadows and of checks has a line, where instructions have ordinary lines and registers names
+-- Each item of the columns of the image table has a line, where instructions have ordinary lines and registers names
 -- and types of one word.
-use Rattle.std.proofs.Common.{ℕ, zero, suc, ◌≡◌, ◌+◌, Bool, true, false, List, [], ◌∷◌, ◌++◌, map, Option, Some, None, refl, sym, subst}
+use Rattle.std.proofs.Common.{ℕ, zero, suc, ◌≡◌, ◌+◌, ◌<◌, ◌≤◌, ◌^◌, Bool, true, false, List, [], ◌∷◌, ◌++◌, map, Option, Some, None, refl, sym, subst, append-nil, arith, length}
 use Rattle.std.specs.List.{AllByRecursion, flat_map}
 use Rattle.ir_core.specs.declared.types.Loc.{Loc}
 use Rattle.ir_core.specs.declared.types.Ty.{Ty}
+use Rattle.ir_core.specs.declared.types.Ty.TheVariants as types
 use Rattle.ir_core.specs.declared.values.Val.{Val}
 use Rattle.ir_core.specs.declared.values.Val.TheVariants as values
 use Rattle.ir_core.specs.declared.values.Side.TheVariants.{M, S}
 use Rattle.ir_core.specs.declared.instruction.Inst.{Inst}
 use Rattle.ir_core.specs.declared.instruction.Inst.TheVariants as insts
 use Rattle.ir_core.specs.declared.instruction.Block.{Block}
-use Rattle.ir_core.specs.Module.{FuncParts}
+use Rattle.ir_core.specs.Module.{ModuleParts, FuncParts}
+use Rattle.ir_calls.specs.Calls.{external_named}
 use Rattle.ir_core.specs.Instructions.{is_phi}
 use Rattle.ir_flow.specs.Edges.{edges_of, is_loop_head}
+use Rattle.hard_ir.specs.declared.instruction.When.{When}
+use Rattle.hard_ir.specs.declared.instruction.When.TheVariants.{Always, Tx}
 use Rattle.hard_ir.specs.declared.instruction.HInst.{HInst}
-use Rattle.hard_ir.specs.declared.instruction.HInst.TheVariants.{Do}
-use Rattle.hard_ir.specs.Image.{Table, single_result, copy_of, copies, flow, phi_image, flow_table, checked, check, check_table}
+use Rattle.hard_ir.specs.declared.instruction.HInst.TheVariants.{Cut, Begin, End, Tick, Chk, ChkMem, Mov, Do}
+use Rattle.hard_ir.specs.Image.{Table, single_result, copy_of, copies, flow, phi_image, flow_table, checked, check, check_table, checked_before, checked_when, check_when, checks_before, core, checks_after, on_shadow, relaxed, relax_table, CallKind, Inner, Outer, OfLock, kind_of, ends_for, begins_for, ends_before, begins_after, body_of, placed, cut_point, place_table, leaves, tick_if, tick_before, row, split_table, is_ender, to_ender, since_ender, with_work, ticked}
 use Rattle.hard_ir.specs.Fit.{must_retire}
 use Rattle.hard_ir.specs.Hardened.{at_entry, at_head, hard_block, hard_blocks, hard_func}
 use Rattle.hard_ir.specs.Lines.{registers_of}
 use Rattle.hard_ir.specs.Standing.{Tables, HasLine, HasPhiLine, HasBlockLines, HasFuncLines}
+use Rattle.hard_laws.proofs.ImageRows.{ender-within, since-within}
 use Rattle.hard_grammar.proofs.Ordinary.{HasOrdinaryLine, all_append, hardened_line}
 use Rattle.hard_grammar.proofs.Unflagged.{unflagged_ordinary}
 use Rattle.hard_grammar.proofs.OwnLines.{IsHeld, check_has_line, copy_has_line}
+use Rattle.hard_grammar.proofs.OwnWords.{cut-line, begin-line, end-line, tick-line}
+use Rattle.hard_grammar.proofs.LateLines.{LateLine}
 use Rattle.hard_grammar.proofs.NumberedLines.{NamedOperand, NamedResult, NamedParam, InstFacts, BlockFacts, FuncFacts}
 
 -- ---- types
@@ -125,7 +132,7 @@ module _ (tables : Tables) where
   -- ---- checks
 
   check_lines : (operand : Ty × Val) → NamedOperand tables operand → HeldOperand operand → AreLines (check operand)
-  check_lines (ty, values.Reg reg) named held = (check_has_line tables ty held reg named, tt)
+  check_lines (ty, values.Reg reg) named held = (check_has_line tables ty held reg named Always, tt)
   check_lines (ty, values.Int n) named held = tt
   check_lines (ty, values.Null) named held = tt
   check_lines (ty, values.Global sym) named held = tt
@@ -135,23 +142,131 @@ module _ (tables : Tables) where
   all_checks [] named held = tt
   all_checks (operand ∷ operands) named held = all_append (HasLine tables) (check operand) (flat_map check operands) (check_lines operand named.0 held.0) (all_checks operands named.1 held.1)
 
+  -- ---- double loads and late checks
+
+  when_lines : (when : When) (operand : Ty × Val) → NamedOperand tables operand → HeldOperand operand → AreLines (check_when when operand)
+  when_lines when (ty, values.Reg reg) named held = (check_has_line tables ty held reg named when, tt)
+  when_lines when (ty, values.Int n) named held = tt
+  when_lines when (ty, values.Null) named held = tt
+  when_lines when (ty, values.Global sym) named held = tt
+  when_lines when (ty, values.Gep gep) named held = tt
+
+  all_when : (when : When) (operands : List (Ty × Val)) → AllByRecursion (NamedOperand tables) operands → AllByRecursion HeldOperand operands → AreLines (flat_map (check_when when) operands)
+  all_when when [] named held = tt
+  all_when when (operand ∷ operands) named held =
+      all_append (HasLine tables) (check_when when operand) (flat_map (check_when when) operands) (when_lines when operand named.0 held.0) (all_when when operands named.1 held.1)
+
+  -- the operands that are checked before an instruction are among those that are checked
+  before_all : (P : Ty × Val → Type 0) (inst : Inst) → AllByRecursion P (checked inst) → AllByRecursion P (checked_before inst)
+  before_all P (insts.Load dst ty ptr false) all = tt
+  before_all P inst all = all
+
+  before_lines : (inst : Inst) → InstFacts tables inst → HeldInst inst → AreLines (checks_before inst)
+  before_lines inst facts held = all_when (checked_when inst) (checked_before inst) (before_all (NamedOperand tables) inst facts.operands) (before_all HeldOperand inst held.operands)
+
+  core_lines : (inst : Inst) → InstFacts tables inst → HeldInst inst → AreLines (core inst)
+  core_lines (insts.Load dst ty ptr false) facts held = doubled _ refl refl (λ e. cc) facts.ordinary
+  core_lines inst facts held = flow_lines inst facts.ordinary facts.result held.result
+
+  after_lines : (inst : Inst) → InstFacts tables inst → HeldInst inst → AreLines (checks_after inst)
+  after_lines (insts.Store ty val ptr false) facts held =
+      all_append (HasLine tables) (check_when Tx (types.Ptr, ptr)) (ChkMem ty (on_shadow ptr) (on_shadow val) ∷ []) (when_lines Tx (types.Ptr, ptr) facts.operands.0 held.operands.0) (facts.late, tt)
+  after_lines inst facts held = tt
+
+  late_lines : (inst : Inst) → InstFacts tables inst → HeldInst inst → AreLines (core inst ++ checks_after inst)
+  late_lines inst facts held = all_append (HasLine tables) (core inst) (checks_after inst) (core_lines inst facts held) (after_lines inst facts held)
+
+  -- ---- transactions and ticks
+
+  ends_lines : (m : ModuleParts) (inst : Inst) → AreLines (ends_before m inst)
+  ends_lines m (insts.Call dst ret callee args) = by (kind_of (external_named m callee))
+    where
+      by : (kind : CallKind) → AreLines (ends_for kind)
+      by Inner = tt
+      by Outer = (end-line tables, tt)
+      by OfLock = tt
+  ends_lines m inst = tt
+
+  cut_lines : AreLines cut_point
+  cut_lines = (cut-line tables, (begin-line tables, tt))
+
+  begins_lines : (m : ModuleParts) (inst : Inst) → AreLines (begins_after m inst)
+  begins_lines m (insts.Call dst ret callee args) = by (kind_of (external_named m callee))
+    where
+      by : (kind : CallKind) → AreLines (begins_for kind)
+      by Inner = cut_lines
+      by Outer = (begin-line tables, tt)
+      by OfLock = (begin-line tables, tt)
+  begins_lines m inst = tt
+
+  body_lines : (m : ModuleParts) (inst : Inst) → InstFacts tables inst → HeldInst inst → AreLines (body_of m inst)
+  body_lines m inst facts held = all_append (HasLine tables) (ends_before m inst) (core inst ++ checks_after inst) (ends_lines m inst) (late_lines inst facts held)
+
+  placed_lines : (m : ModuleParts) (inst : Inst) → InstFacts tables inst → HeldInst inst → AreLines (placed m inst)
+  placed_lines m inst facts held =
+      all_append (HasLine tables) (checks_before inst) (body_of m inst ++ begins_after m inst) (before_lines inst facts held)
+      (all_append (HasLine tables) (body_of m inst) (begins_after m inst) (body_lines m inst facts held) (begins_lines m inst))
+
+  tick_lines : (b : Bool) → AreLines (tick_if b 0)
+  tick_lines true = (tick-line tables 0 (omega arith), tt)
+  tick_lines false = tt
+
   -- ---- tables
 
-  -- what stands for an instruction has lines, and nothing stands at loop heads
+  -- what stands for an instruction has lines, and what stands besides at an entry and at loop heads
   pub record IsLined (table : Table) : Type 0 where
-    pub copied : (params : List (Ty × Loc)) → table.entry params ≡ map copy_of params
-    pub bare : table.head ≡ []
+    pub entry : (params : List (Ty × Loc)) → (rest : List HInst) × (table.entry params ≡ map copy_of params ++ rest) × AreLines rest
+    pub head : AreLines table.head
     pub image : (inst : Inst) → InstFacts tables inst → HeldInst inst → AreLines (table.image inst)
 
+  only_copies : (params : List (Ty × Loc)) → (rest : List HInst) × (map copy_of params ≡ map copy_of params ++ rest) × AreLines rest
+  only_copies params = ([], sym (append-nil (map copy_of params)), tt)
+
   pub flow_lined : IsLined flow_table
-  flow_lined = record { copied = λ params. refl; bare = refl; image = λ inst facts held. flow_lines inst facts.ordinary facts.result held.result }
+  flow_lined = record { entry = only_copies; head = tt; image = λ inst facts held. flow_lines inst facts.ordinary facts.result held.result }
 
   pub check_lined : IsLined check_table
   check_lined = record {
-    copied = λ params. refl;
-    bare = refl;
+    entry = only_copies;
+    head = tt;
     image = λ inst facts held. all_append (HasLine tables) (flat_map check (checked inst)) (flow inst) (all_checks (checked inst) facts.operands held.operands) (flow_lines inst facts.ordinary facts.result held.result);
   }
+
+  pub relax_lined : IsLined relax_table
+  relax_lined = record {
+    entry = only_copies;
+    head = tt;
+    image = λ inst facts held. all_append (HasLine tables) (checks_before inst) (core inst ++ checks_after inst) (before_lines inst facts held) (late_lines inst facts held);
+  }
+
+  pub place_lined : (m : ModuleParts) → IsLined (place_table m)
+  place_lined m = record { entry = λ params. (cut_point, refl, cut_lines); head = cut_lines; image = placed_lines m }
+
+  pub split_lined : (m : ModuleParts) → IsLined (split_table m)
+  split_lined m = record {
+    entry = λ params. (cut_point, refl, cut_lines);
+    head = cut_lines;
+    image = λ inst facts held. all_append (HasLine tables) (tick_before 0 inst) (placed m inst) (tick_lines (leaves inst)) (placed_lines m inst facts held);
+  }
+
+  -- ---- the numbers of ticks
+
+  work_line : (work : ℕ) (item : HInst) → work < 2 ^ 32 → HasLine tables item → HasLine tables (with_work work item)
+  work_line work (Tick old) small line = tick-line tables work small
+  work_line work (Do side inst retires) small line = line
+  work_line work (Mov ty reg) small line = line
+  work_line work (Chk when ty reg) small line = line
+  work_line work (ChkMem ty ptr val) small line = line
+  work_line work Cut small line = line
+  work_line work Begin small line = line
+  work_line work End small line = line
+
+  pub ticked_lines : (since : ℕ) (list : List HInst) → since + length list < 2 ^ 32 → AreLines list → AreLines (ticked since list)
+  ticked_lines since [] small lines = tt
+  ticked_lines since (item ∷ list) small lines =
+      let ender = ender-within (item ∷ list) in
+      let next = since-within since item in
+      (work_line (since + to_ender (item ∷ list)) item (omega (arith, small, ender)) lines.0, ticked_lines (since_ender since item) list (omega (arith, small, next)) lines.1)
 
   -- ---- blocks
 
@@ -165,11 +280,13 @@ module _ (tables : Tables) where
     image_lines (inst ∷ body) facts held = all_append (HasLine tables) (table.image inst) (flat_map table.image body) (lined.image inst facts.0 held.0) (image_lines body facts.1 held.1)
 
     head_lines : (is_head : Bool) → AreLines (at_head table is_head)
-    head_lines true = subst AreLines (sym lined.bare) tt
+    head_lines true = lined.head
     head_lines false = tt
 
     entry_lines : (f : FuncParts) (n : ℕ) → AllByRecursion (NamedParam tables) f.params → AllByRecursion HeldParam f.params → AreLines (at_entry table f n)
-    entry_lines f zero named held = subst AreLines (sym (lined.copied f.params)) (copy_all f.params named held)
+    entry_lines f zero named held =
+        let own = lined.entry f.params in
+        subst AreLines (sym own.1) (all_append (HasLine tables) (map copy_of f.params) own.0 (copy_all f.params named held) own.2)
     entry_lines f (suc n) named held = tt
 
     block_lines : (f : FuncParts) (n : ℕ) (block : Block) → AllByRecursion (NamedParam tables) f.params → AllByRecursion HeldParam f.params → BlockFacts tables block → HeldBlock block

@@ -13,3 +13,6 @@ mod WrittenTypes
 mod WrittenNames
 mod Held
 mod Results
+mod Constants
+mod LateLines
+mod OwnWords

@@ -1,6 +1,6 @@
 -- The hardened modules of an accepted module that a text stands for have lines.
 use Rattle.std.proofs.Common.{ℕ, zero, suc, ◌≡◌, ◌+◌, ◌<◌, ◌≤◌, List, [], ◌∷◌, length, map, fold, max, Some, slice_get, refl, sym, ap, ◌∙◌, subst, arith}
-use Rattle.std.specs.List.{AllByRecursion}
+use Rattle.std.specs.List.{All, AllByRecursion}
 use Rattle.std.proofs.lemmas.List.{length-map}
 use Rattle.ir_core.specs.declared.types.Loc.{Loc}
 use Rattle.ir_core.specs.declared.types.Ty.{Ty}
@@ -13,9 +13,12 @@ use Rattle.ir_parse_top.specs.Sheet.{numerals, with_numerals}
 use Rattle.ir_parse_top.specs.Text.{Text, IsOfText, numerals_for}
 use Rattle.ir_parse_top.proofs.BlockLaws.{functions_have_blocks}
 use Rattle.ir_check.specs.Faults.{IsAccepted}
-use Rattle.hard_ir.specs.Image.{Table, flow_table, check_table}
-use Rattle.hard_ir.specs.Hardened.{head_of, hard_func, hardened_by}
-use Rattle.hard_ir.specs.Standing.{Tables, tables_of, HasFuncLines, HasLines}
+use Rattle.hard_ir.specs.Image.{Table, flow_table, check_table, relax_table, place_table, split_table}
+use Rattle.hard_ir.specs.declared.instruction.HBlock.{HBlock}
+use Rattle.hard_ir.specs.Facts.{IsShort, AreShort}
+use Rattle.hard_ir.specs.Hardened.{HardParts, head_of, hard_func, hardened_by, ticked_block, ticked_module, harden}
+use Rattle.hard_ir.specs.Standing.{Tables, tables_of, HasBlockLines, HasFuncLines, HasLines}
+use Rattle.hard_laws.proofs.ImageRows.{all-got, ticked-length}
 use Rattle.hard_grammar.proofs.Ordinary.{all_map}
 use Rattle.hard_grammar.proofs.TextLines.{IsToldBlock, IsToldFunc, tree_told}
 use Rattle.hard_grammar.proofs.NumberedLines.{BlockFacts, FuncFacts, block_facts, param_facts}
@@ -24,7 +27,7 @@ use Rattle.hard_grammar.proofs.Words.{NotVoid}
 use Rattle.hard_grammar.proofs.Parameters.{not_void_renamed}
 use Rattle.hard_grammar.proofs.Held.{words_held}
 use Rattle.hard_grammar.proofs.Results.{have_words}
-use Rattle.hard_grammar.proofs.Columns.{HeldFunc, IsLined, flow_lined, check_lined, func_lines}
+use Rattle.hard_grammar.proofs.Columns.{HeldFunc, IsLined, flow_lined, check_lined, relax_lined, place_lined, split_lined, ticked_lines, func_lines}
 
 -- ---- elements of lists
 
@@ -117,3 +120,38 @@ flow_has_lines = lines_of_text flow_table flow_lined
 
 pub check_has_lines : (m : ModuleParts) → IsAccepted m → IsOfText m → HasLines (hardened_by check_table m)
 check_has_lines = lines_of_text check_table check_lined
+
+pub relax_has_lines : (m : ModuleParts) → IsAccepted m → IsOfText m → HasLines (hardened_by relax_table m)
+relax_has_lines = lines_of_text relax_table relax_lined
+
+pub place_has_lines : (m : ModuleParts) → IsAccepted m → IsOfText m → HasLines (hardened_by (place_table m) m)
+place_has_lines m = lines_of_text (place_table m) (λ tables. place_lined tables m) m
+
+split_has_lines : (m : ModuleParts) → IsAccepted m → IsOfText m → HasLines (hardened_by (split_table m) m)
+split_has_lines m = lines_of_text (split_table m) (λ tables. split_lined tables m) m
+
+-- ---- with the numbers of ticks
+
+block_ticked : (tables : Tables) (block : HBlock) → IsShort (ticked_block block) → HasBlockLines tables block → HasBlockLines tables (ticked_block block)
+block_ticked tables block short lines =
+    let same = ticked-length 0 block.list in
+    record { label = lines.label; phis = lines.phis; list = ticked_lines tables 0 block.list (omega (arith, short, same)) lines.list }
+
+blocks_ticked : (tables : Tables) (blocks : List HBlock) → All IsShort (map ticked_block blocks) → AllByRecursion (HasBlockLines tables) blocks → AllByRecursion (HasBlockLines tables) (map ticked_block blocks)
+blocks_ticked tables [] short lines = tt
+blocks_ticked tables (block ∷ blocks) short lines =
+    (block_ticked tables block (short 0 block (omega arith)) lines.0, blocks_ticked tables blocks (λ j d h. short (suc j) d (omega (arith, h))) lines.1)
+
+still_some : (blocks : List HBlock) → (blocks ≡ [] → ⊥) → map ticked_block blocks ≡ [] → ⊥
+still_some [] some e = some refl
+still_some (block ∷ blocks) some e = absurd cc
+
+ticked_has_lines : (h : HardParts) → AreShort (ticked_module h).funcs → HasLines h → HasLines (ticked_module h)
+ticked_has_lines h short lines n f blocks at there =
+    let own = map_at (map ticked_block) h.funcs n blocks there in
+    let is = lines n f own.0 at own.1 in
+    let small : All IsShort (map ticked_block own.0) = subst (All IsShort) (sym own.2) (all-got (All IsShort) (ticked_module h).funcs n blocks short there) in
+    subst (HasFuncLines (tables_of h.heads f)) own.2 (record { entry = still_some own.0 is.entry; each = blocks_ticked (tables_of h.heads f) own.0 small is.each })
+
+pub harden_has_lines : (m : ModuleParts) → IsAccepted m → IsOfText m → AreShort (harden m).funcs → HasLines (harden m)
+harden_has_lines m accepted t short = ticked_has_lines (hardened_by (split_table m) m) short (split_has_lines m accepted t)

@@ -33,6 +33,7 @@ use Rattle.hard_grammar.proofs.Parameters.{AreValues}
 use Rattle.hard_grammar.proofs.TextLines.{IsTold, IsLabel, Written, Unwritten, IsNameAt, names_at, IsParam, Named, Numbered, AreParams, IsToldBlock}
 use Rattle.hard_grammar.proofs.WrittenNames.{NameOf, NamesOf, NamesIn, names_written}
 use Rattle.hard_grammar.proofs.OwnLines.{IsNamed}
+use Rattle.hard_grammar.proofs.LateLines.{LateLine, late_line}
 use Rattle.hard_grammar.proofs.WrittenTypes.{WritesWord, writes_numbered}
 
 -- ---- what is known of instructions and blocks
@@ -57,6 +58,7 @@ pub record InstFacts (tables : Tables) (inst : Inst) : Type 0 where
   pub operands : AllByRecursion (NamedOperand tables) (checked inst)
   pub result : NamedResult tables (single_result inst)
   pub written : WritesWord inst
+  pub late : LateLine tables inst
 
 pub record BlockFacts (tables : Tables) (block : Block) : Type 0 where
   pub label : HasLabelLine tables block.label
@@ -196,7 +198,7 @@ module _ (text : List ℕ) (count : ℕ) (table : ModuleParts) (f : FuncParts) w
   inst_facts : (inst : Inst) → IsTold text (numerals 0 count) inst → InstFacts tables (renamed_inst names inst)
   inst_facts inst h =
       let is = names_written Name (tokens_of text h.tokens) inst h.stands.is (names_at text (numerals 0 count) h.tokens h.sound) in
-      record { ordinary = ordinary inst h; operands = named_operands inst is; result = named_result inst is; written = writes_numbered names (tokens_of text h.tokens) inst h.stands.is }
+      record { ordinary = ordinary inst h; operands = named_operands inst is; result = named_result inst is; written = writes_numbered names (tokens_of text h.tokens) inst h.stands.is; late = late_line text count table f inst h is }
 
   pub block_facts : (n : ℕ) → n < count → n < 10000000 → (block : Block) → IsToldBlock text (numerals 0 count) n block → BlockFacts tables (renamed_block names block)
   block_facts n within small block h = record {

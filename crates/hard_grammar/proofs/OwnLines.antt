@@ -22,11 +22,12 @@ use Rattle.ir_grammar.specs.Tokens.{known}
 use Rattle.ir_grammar.specs.Types.{width_text, type_word, typ, any_type}
 use Rattle.ir_grammar.specs.Fitting.{open_after}
 use Rattle.ir_numbering.specs.Renaming.{Renaming, renamed_step, renamed_ty}
-use Rattle.hard_ir.specs.declared.instruction.When.TheVariants.{Always}
+use Rattle.hard_ir.specs.declared.instruction.When.{When}
+use Rattle.hard_ir.specs.declared.instruction.When.TheVariants.{Always, Plain, Tx}
 use Rattle.hard_ir.specs.declared.instruction.HInst.{HInst}
 use Rattle.hard_ir.specs.declared.instruction.HInst.TheVariants.{Chk, Mov}
 use Rattle.hard_ir.specs.Image.{pair_of}
-use Rattle.hard_ir.specs.Lines.{HasKind, AreTokens, mark, register_on, is_named_on, register_pair, check_line, copy_line, own_line}
+use Rattle.hard_ir.specs.Lines.{HasKind, AreTokens, mark, register_on, is_named_on, register_pair, check_word, check_line, copy_line, own_line}
 use Rattle.hard_ir.specs.Standing.{Tables, HasNumbers, AreNumbered, renamed_item, HasOwnLine}
 use Rattle.hard_grammar.proofs.Words.{OneWord, AnInt, APtr}
 use Rattle.hard_grammar.proofs.Ordinary.{all_append, marked, named_bytes}
@@ -251,14 +252,14 @@ module _ (tables : Tables) (ty : Ty) (held : IsHeld ty) (reg : Loc) (named : IsN
         is = is;
       }
 
-  check_means : own_line.means (word (codes "chk") ∷ (type.tokens ++ registers M S named.name)) (Chk Always ty place)
+  check_means : (when : When) (text : List ℕ) → check_word text ≡ Some when → own_line.means (word text ∷ (type.tokens ++ registers M S named.name)) (Chk when ty place)
   unfolding own_line check_line
-  check_means = inr (inr (inr (inl (record {
-    front = word (codes "chk") ∷ [];
+  check_means when text e = inr (inr (inr (inl (record {
+    front = word text ∷ [];
     back = type.tokens ++ registers M S named.name;
-    value = Always;
+    value = when;
     whole = refl;
-    first = record { token = word (codes "chk"); whole = refl; is = refl };
+    first = record { token = word text; whole = refl; is = e };
     second = record {
       front = type.tokens;
       back = registers M S named.name;
@@ -293,12 +294,20 @@ module _ (tables : Tables) (ty : Ty) (held : IsHeld ty) (reg : Loc) (named : IsN
       same : (at : Loc) {n : ℕ} → at.0 ≡ n → at ≡ record { 0 = n }
       same at e = ap (λ (k : ℕ). let l : Loc = record { 0 = k } in l) e
 
-  pub check_has_line : HasOwnLine tables (Chk Always ty reg)
+  pub check_has_line : (when : When) → HasOwnLine tables (Chk when ty reg)
   unfolding IsToken
-  check_has_line =
-      let names = names_for tables M S named.name in
-      line_of (codes "chk") M S (Chk Always ty place) (Chk Always ty reg) refl check_means refl refl
-      (ap (λ (r : Loc). Chk Always ty r) same_register ∙ ap (λ (t : Ty). Chk Always t (record { 0 = number_given tables.locals named.name })) (sym (type.renamed names)))
+  check_has_line when = by when
+    where
+      names : Renaming
+      names = names_for tables M S named.name
+
+      is : (when : When) → Chk when ty reg ≡ renamed_item names (Chk when ty place)
+      is when = ap (λ (r : Loc). Chk when ty r) same_register ∙ ap (λ (t : Ty). Chk when t (record { 0 = number_given tables.locals named.name })) (sym (type.renamed names))
+
+      by : (when : When) → HasOwnLine tables (Chk when ty reg)
+      by Always = line_of (codes "chk") M S (Chk Always ty place) (Chk Always ty reg) refl (check_means Always (codes "chk") refl) refl refl (is Always)
+      by Plain = line_of (codes "chk.plain") M S (Chk Plain ty place) (Chk Plain ty reg) refl (check_means Plain (codes "chk.plain") refl) refl refl (is Plain)
+      by Tx = line_of (codes "chk.tx") M S (Chk Tx ty place) (Chk Tx ty reg) refl (check_means Tx (codes "chk.tx") refl) refl refl (is Tx)
 
   pub copy_has_line : HasOwnLine tables (Mov ty reg)
   unfolding IsToken

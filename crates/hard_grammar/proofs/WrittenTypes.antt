@@ -34,7 +34,7 @@ entry_all {A} P (row ∷ rows) word a all e = by (bytes_eq word row.0) e (entry_
     by true h rest = let same : row.1 ≡ a = cc in subst P same all.0
     by false h rest = rest h
 
-one_word : (table : List ℕ → Option Ty) → ((word : List ℕ) (ty : Ty) → table word ≡ Some ty → OneWord ty) → (tokens : List Tok) (ty : Ty) → IsOne (in_table table) tokens ty → OneWord ty
+pub one_word : (table : List ℕ → Option Ty) → ((word : List ℕ) (ty : Ty) → table word ≡ Some ty → OneWord ty) → (tokens : List Tok) (ty : Ty) → IsOne (in_table table) tokens ty → OneWord ty
 one_word table all tokens ty h = by (word_of h.token) h.is
   where
     by : (o : Option (List ℕ)) → option_and_then table o ≡ Some ty → OneWord ty
@@ -56,7 +56,7 @@ AreWords = AllByRecursion (λ row. OneWord row.1)
 scalars : (word : List ℕ) (ty : Ty) → scalar_word word ≡ Some ty → OneWord ty
 scalars word ty = let all : AreWords scalar_rows = (AnInt W1, (AnInt W8, (AnInt W16, (AnInt W32, (AnInt W64, (APtr, tt)))))) in entry_all OneWord scalar_rows word ty all
 
-memories : (word : List ℕ) (ty : Ty) → memory_word word ≡ Some ty → OneWord ty
+pub memories : (word : List ℕ) (ty : Ty) → memory_word word ≡ Some ty → OneWord ty
 memories word ty = let all : AreWords memory_rows = (AnInt W8, (AnInt W16, (AnInt W32, (AnInt W64, (APtr, tt))))) in entry_all OneWord memory_rows word ty all
 
 numbers : (word : List ℕ) (ty : Ty) → number_word word ≡ Some ty → OneWord ty

@@ -173,7 +173,7 @@ module _ (m : ModuleParts) where
 
 -- ---- and stay small
 
-ender-within : (list : List HInst) → to_ender list ≤ length list
+pub ender-within : (list : List HInst) → to_ender list ≤ length list
 ender-within [] = omega arith
 ender-within (item ∷ list) = by_test (is_ender item) (ender-within list)
   where
@@ -181,7 +181,7 @@ ender-within (item ∷ list) = by_test (is_ender item) (ender-within list)
     by_test true h = omega arith
     by_test false h = omega arith
 
-since-within : (since : ℕ) (item : HInst) → since_ender since item ≤ suc since
+pub since-within : (since : ℕ) (item : HInst) → since_ender since item ≤ suc since
 since-within since item = by_test (is_ender item)
   where
     by_test : (b : Bool) → (if b then 0 else suc since) ≤ suc since

@@ -3,4 +3,4 @@
 
 mod laws;
 
-pub use laws::accepted_modules_fit;
+pub use laws::{accepted_modules_fit, hardened_modules_are_images};
