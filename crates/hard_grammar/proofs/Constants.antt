@@ -60,19 +60,19 @@ unfolding open_after
 wrapped-balanced first last inner opens closes even n rest e =
     ap (λ b. option_and_then (λ m. open_after m ((inner ++ last ∷ []) ++ rest)) (open_behind b n)) opens
     ∙ by_room (nat_lt n 64) (sym (ap (λ b. is_some (option_and_then (λ m. open_after m (inner ++ last ∷ [])) (open_behind b n))) opens) ∙ e)
-    where
-      one_less : (m : ℕ) → suc m - 1 ≡ m
-      one_less m = omega arith
+  where
+    one_less : (m : ℕ) → suc m - 1 ≡ m
+    one_less m = omega arith
 
-      closed : (m : ℕ) → is_some (open_after (suc m) (inner ++ last ∷ [])) ≡ true → open_after (suc m) ((inner ++ last ∷ []) ++ rest) ≡ open_after m rest
-      closed m f =
-          ap (open_after (suc m)) (append_assoc inner (last ∷ []) rest) ∙ even (suc m) (last ∷ rest) (before (suc m) inner (last ∷ []) f)
-          ∙ ap (λ b. option_and_then (λ k. open_after k rest) (open_behind b (suc m))) closes ∙ ap (λ (k : ℕ). open_after k rest) (one_less m)
+    closed : (m : ℕ) → is_some (open_after (suc m) (inner ++ last ∷ [])) ≡ true → open_after (suc m) ((inner ++ last ∷ []) ++ rest) ≡ open_after m rest
+    closed m f =
+        ap (open_after (suc m)) (append_assoc inner (last ∷ []) rest) ∙ even (suc m) (last ∷ rest) (before (suc m) inner (last ∷ []) f)
+        ∙ ap (λ b. option_and_then (λ k. open_after k rest) (open_behind b (suc m))) closes ∙ ap (λ (k : ℕ). open_after k rest) (one_less m)
 
-      by_room : (room : Bool) → is_some (option_and_then (λ m. open_after m (inner ++ last ∷ [])) (if room then Some (suc n) else None)) ≡ true
-          → option_and_then (λ m. open_after m ((inner ++ last ∷ []) ++ rest)) (if room then Some (suc n) else None) ≡ open_after n rest
-      by_room true f = closed n f
-      by_room false f = absurd (let clash : false ≡ true = f in cc)
+    by_room : (room : Bool) → is_some (option_and_then (λ m. open_after m (inner ++ last ∷ [])) (if room then Some (suc n) else None)) ≡ true
+        → option_and_then (λ m. open_after m ((inner ++ last ∷ []) ++ rest)) (if room then Some (suc n) else None) ≡ open_after n rest
+    by_room true f = closed n f
+    by_room false f = absurd (let clash : false ≡ true = f in cc)
 
 -- ---- single tokens
 

@@ -431,39 +431,41 @@ module _ (text : List ℕ) (count : ℕ) (table : ModuleParts) (f : FuncParts) w
           tree = ChkMem ty p.tree v.tree;
           names = numbers;
           kinds = (refl, all_append HasKind type _ kinds (all_append HasKind p.tokens _ p.kinds (refl, v.kinds)));
-          stands = record { shallow = ap is_some (table-shallow _ typed (p.tokens ++ (comma ∷ v.tokens)) ∙ p.closed (comma ∷ v.tokens) ∙ last); is = inr (inr (inl (record {
-            front = word ∷ [];
-            back = items;
-            value = true;
-            whole = refl;
-            first = record { token = word; whole = refl; is = refl };
-            second = record {
-              front = type;
-              back = p.tokens ++ (comma ∷ v.tokens);
-              value = ty;
+          stands = record {
+            shallow = ap is_some (table-shallow _ typed (p.tokens ++ (comma ∷ v.tokens)) ∙ p.closed (comma ∷ v.tokens) ∙ last);
+            is = inr (inr (inl (record {
+              front = word ∷ [];
+              back = items;
+              value = true;
               whole = refl;
-              first = typed;
+              first = record { token = word; whole = refl; is = refl };
               second = record {
-                front = p.tokens;
-                back = comma ∷ v.tokens;
-                value = p.tree;
+                front = type;
+                back = p.tokens ++ (comma ∷ v.tokens);
+                value = ty;
                 whole = refl;
-                first = p.means;
+                first = typed;
                 second = record {
-                  front = comma ∷ [];
-                  back = v.tokens;
-                  value = true;
+                  front = p.tokens;
+                  back = comma ∷ v.tokens;
+                  value = p.tree;
                   whole = refl;
-                  first = record { token = comma; whole = refl; is = refl };
-                  second = record { front = v.tokens; back = []; value = v.tree; whole = sym (append-nil v.tokens); first = v.means; second = (refl, refl) };
+                  first = p.means;
+                  second = record {
+                    front = comma ∷ [];
+                    back = v.tokens;
+                    value = true;
+                    whole = refl;
+                    first = record { token = comma; whole = refl; is = refl };
+                    second = record { front = v.tokens; back = []; value = v.tree; whole = sym (append-nil v.tokens); first = v.means; second = (refl, refl) };
+                  };
                 };
               };
-            };
-          }))) };
+            })));
+          };
           numbered = (tt, all_append (HasNumbers tables 3 numbers) type _ numbered (all_append (HasNumbers tables 3 numbers) p.tokens _ p.numbered (tt, v.numbered)));
           is = ap (λ (x : HVal). ChkMem ty x val) p.is ∙ ap (λ (x : HVal). ChkMem ty (renamed_operand numbers p.tree) x) v.is;
         }
-
 
   -- ---- instructions
 

@@ -19,7 +19,6 @@ use Rattle.hard_ir.specs.declared.instruction.HInst.TheVariants.{Cut, Begin, End
 use Rattle.hard_ir.specs.Lines.{bare_line, tick_line, check_line, own_line}
 use Rattle.hard_ir.specs.Standing.{Tables, HasOwnLine}
 
-
 -- ---- numbers
 
 record IsWritten (n : ℕ) (digits : List ℕ) : Type 0 where
@@ -120,14 +119,17 @@ module _ (tables : Tables) where
         tree = Tick work;
         names = no_names;
         kinds = (refl, (inl is.digit, tt));
-        stands = record { shallow = refl; is = inr (inl (record {
-          front = word (codes "tick") ∷ [];
-          back = number ∷ [];
-          value = true;
-          whole = refl;
-          first = record { token = word (codes "tick"); whole = refl; is = refl };
-          second = record { front = number ∷ []; back = []; value = work; whole = refl; first = record { token = number; whole = refl; is = count-read (2 ^ 32) work (decimal work) small is }; second = (refl, refl) };
-        })) };
+        stands = record {
+          shallow = refl;
+          is = inr (inl (record {
+            front = word (codes "tick") ∷ [];
+            back = number ∷ [];
+            value = true;
+            whole = refl;
+            first = record { token = word (codes "tick"); whole = refl; is = refl };
+            second = record { front = number ∷ []; back = []; value = work; whole = refl; first = record { token = number; whole = refl; is = count-read (2 ^ 32) work (decimal work) small is }; second = (refl, refl) };
+          }));
+        };
         numbered = (tt, (tt, tt));
         is = refl;
       }

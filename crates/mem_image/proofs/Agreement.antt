@@ -167,7 +167,7 @@ area-each mem other area whole whole' same = ext_get_or 0 (bytes_in mem area) (b
         let is : area_of (start_of area + i) ≡ area = on area i (omega (arith, below, count)) in
         sym (unwrap_or-slice_get (bytes_in mem area) i 0)
         ∙ ap (λ (o : Option ℕ). unwrap_or o 0) (sym (byte-in mem (start_of area + i) i area is refl) ∙ same (start_of area + i)
-          ∙ byte-in other (start_of area + i) i area is refl)
+        ∙ byte-in other (start_of area + i) i area is refl)
         ∙ unwrap_or-slice_get (bytes_in other area) i 0
 
 -- memories with the same globals and the same bytes are the same

@@ -179,9 +179,11 @@ module _ (spans : List Span) (a n word : ℕ) (valid : is_valid spans a n ≡ tr
 
   kept-lines : (lines : List Line) → AreLines lines → AreLines (lines_with lines a n word)
   kept-lines [] all = tt
-  kept-lines (line ∷ lines) all = (kept-length (nat_eq line.number (line_of a)) line all.0,
-      ap (is_open (lines_with lines a n word)) (kept-number (nat_eq line.number (line_of a)) line) ∙ kept-open lines line.number ∙ all.1,
-      kept-lines lines all.2)
+  kept-lines (line ∷ lines) all = (
+    kept-length (nat_eq line.number (line_of a)) line all.0,
+    ap (is_open (lines_with lines a n word)) (kept-number (nat_eq line.number (line_of a)) line) ∙ kept-open lines line.number ∙ all.1,
+    kept-lines lines all.2,
+  )
 
 or-none : (a b : Bool) → (a || b) ≡ false → (a ≡ false) × (b ≡ false)
 or-none true b e = absurd cc
@@ -191,10 +193,11 @@ blank-lines : (lines : List Line) (number : ℕ) → AreLines lines → is_open 
 blank-lines [] number all absent = (length-replicate {A = Option ℕ} line_size None, refl, tt)
 blank-lines (line ∷ lines) number all absent =
     let both = or-none (nat_eq line.number number) (is_open lines number) absent in
-    let other : nat_eq number line.number ≡ false = let e = both.0 in grind (arith, nat_tests, e) in
-    (all.0,
-    list_any-append (λ (l : Line). nat_eq l.number line.number) lines (blank number ∷ []) ∙ ap (λ (b : Bool). b || (nat_eq number line.number || false)) all.1 ∙ ap (λ (b : Bool). b || false) other,
-    blank-lines lines number all.2 both.1)
+    let other : nat_eq number line.number ≡ false = let e = both.0 in grind (arith, nat_tests, e) in (
+      all.0,
+      list_any-append (λ (l : Line). nat_eq l.number line.number) lines (blank number ∷ []) ∙ ap (λ (b : Bool). b || (nat_eq number line.number || false)) all.1 ∙ ap (λ (b : Bool). b || false) other,
+      blank-lines lines number all.2 both.1,
+    )
 
 opened-lines : (writes : Bool) (lines : List Line) (number : ℕ) → AreLines lines → AreLines (opened_where writes lines number)
 opened-lines false lines number all = all
@@ -218,7 +221,7 @@ access-writes spans touch store lines at all writes same valid =
     (opened-lines touch.writes lines (line_of touch.address) all)
     (ap (λ (a : ℕ). is_open (opened_where touch.writes lines (line_of touch.address)) (line_of a)) same ∙ is-opened touch.writes lines (line_of touch.address) writes)
     ∙ stored-opened (written_in (opened_where touch.writes lines (line_of touch.address))) (written_in lines) store.address store.size store.word at
-      (opened-writes_nothing touch.writes lines (line_of touch.address) at)
+    (opened-writes_nothing touch.writes lines (line_of touch.address) at)
 
 -- each line has its bytes after any access
 pub access-kept : (spans : List Span) (touch : Touch) (store : Option Store) (lines : List Line) → AreLines lines

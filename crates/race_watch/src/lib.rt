@@ -6,11 +6,13 @@
 //! that one with the others.
 #![tactic(auto)]
 
+mod laws;
 mod outcome;
 mod pairs;
 mod table;
 mod watching;
 
+pub use laws::watched_runs_are_source_runs;
 pub use outcome::{SrcStop, WatchResult};
 pub use pairs::race;
 pub use watching::watch;

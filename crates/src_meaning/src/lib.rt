@@ -14,6 +14,7 @@ mod programs;
 mod sources;
 mod state;
 
+pub use inst_meaning::{Access, Cause};
 pub use process::Step;
 pub use sources::Source;
 pub use state::Frame;
