@@ -1,12 +1,12 @@
 -- Calls that lock and unlock a mutex inside a transaction, where they are done by watching: the mutex stays free, and whoever takes it
 -- aborts the transaction.
 --
--- Choices: a transaction watches at most 16 mutexes. It can lock one that has no owner and that it doesn't hold, and unlock one that it holds.
+-- Choices: what is watched and held changes as lock elision's own table says. A transaction can lock one that has no owner and that it doesn't hold, and unlock one that it holds.
 -- A call that can't be done so ends the transaction, keeps its place, and is done outside at a later turn.
-use Rattle.std.specs.Prelude.{ℕ, Bool, not, ◌&&◌, nat_eq, List, ◌∷◌, Option, Some, None}
-use Rattle.std.specs.List.{filter}
+use Rattle.std.specs.Prelude.{ℕ, Bool, not, ◌&&◌, List, ◌∷◌, Option, Some, None}
 use Rattle.std.specs.Option.{is_none}
 use Rattle.line_sets.specs.Sets.{has, with_member, takes}
+pub use Rattle.elide.specs.Watches.{watch_limit, without}
 use Rattle.inst_meaning.specs.declared.actions.Action.{Action}
 use Rattle.inst_meaning.specs.declared.actions.Action.TheVariants.{Assign, Reserve, Read, Write, Update, Pass, Jump, Call, Ask, Create, Join, Exit, Return, Fault}
 use Rattle.inst_meaning.specs.declared.actions.Request.{Request}
@@ -52,17 +52,11 @@ taken_by (Some (Unlocks address)) = None
 
 -- ---- inside
 
-abbrev pub watch_limit : ℕ
-watch_limit = 16
-
 -- it can be done by watching
 abbrev pub can_watch : MutexCall → WorldParts → Transaction → Bool
 can_watch (Locks address) world tx =
     is_none (owner_of world.owners address) && (not (has tx.held address) && takes watch_limit tx.watched address)
 can_watch (Unlocks address) world tx = has tx.held address
-
-abbrev pub without : List ℕ → ℕ → List ℕ
-without members n = filter (λ member. not (nat_eq n member)) members
 
 -- and then it watches the mutex, and holds it or no longer
 abbrev pub watching : MutexCall → Transaction → Transaction

@@ -1,25 +1,16 @@
 -- The runtime's words of a thread, and what begins and ends transactions (Intel 64 and IA-32 Architectures Software Developer's Manual,
 -- volume 1, 'Programming with Intel Transactional Synchronization Extensions': XBEGIN, XEND, XABORT).
 --
--- Choices, the tool's own: a thread tries a transaction three times, and then goes on without one until it next ends one. A
--- transaction is cut once it has counted a work of 1000. One definition says what ending a transaction comes to, with the thread as
--- it is, which an abort needs, and the state that is reached where it commits.
-use Rattle.std.specs.Prelude.{ℕ, ◌+◌, ◌-◌, ◌^◌, min, Bool, true, false, nat_lt, nat_le, List, [], ◌∷◌, ◌++◌, replicate, slice_set}
+-- Choices: the words change as the runtime's own table says; here they do so with the thread. One definition says what ending a
+-- transaction comes to, with the thread as it is, which an abort needs, and the state that is reached where it commits.
+use Rattle.std.specs.Prelude.{ℕ, ◌+◌, min, Bool, true, false, nat_lt, nat_le, List, [], ◌∷◌, ◌++◌, replicate, slice_set}
 use Rattle.rtm_core.specs.Footprint.{nothing_touched, seen_through}
+use Rattle.tx_runtime.specs.Words.{tries, threshold, last_count}
 use Rattle.process.specs.declared.state.CallStack.{CallStack}
 use Rattle.hard_frames.specs.declared.state.Frame.{Frame}
 use Rattle.hard_meaning.specs.State.{Transaction, Mode, Free, Inside, Worker, State}
 use Rattle.hard_meaning.specs.Aborts.{Locked, aborted}
 use Rattle.hard_meaning.specs.Effects.{with_worker}
-
-abbrev pub tries : ℕ
-tries = 3
-
-abbrev pub threshold : ℕ
-threshold = 1000
-
-abbrev pub last_count : ℕ
-last_count = 2 ^ 64 - 1
 
 -- ---- begin and tick
 

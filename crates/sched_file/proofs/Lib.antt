@@ -3,5 +3,6 @@ pub mod Turns
 pub mod Digits
 pub mod Readings
 pub mod Meanings
+pub mod OneUpset
 pub mod SoFar
 pub mod Decided

@@ -5,5 +5,6 @@ pub mod Schedule
 pub mod Cutting
 pub mod Reading
 pub mod Upsets
+pub mod Only
 pub mod Pending
 pub mod Shown

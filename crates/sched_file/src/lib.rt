@@ -14,6 +14,7 @@ mod entries;
 mod forms;
 mod laws;
 mod numbers;
+mod one_upset;
 mod parsing;
 
 pub use drawing::Cursor;

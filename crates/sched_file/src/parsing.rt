@@ -3,12 +3,14 @@ ghost use Rattle.std.specs.Prelude.{◌≡◌, ◌≤◌, ℕ, length, IfOk, IsE
 ghost use Rattle.ir_core.specs.Lines.{lines_of};
 ghost use Rattle.sched_file.specs.Schedule.{IsSchedule, UnfitLine};
 ghost use Rattle.sched_file.specs.Events.{events_of};
+ghost use Rattle.sched_file.specs.Only.{upsets_in, only};
 ghost use Rattle.sched_file.specs.declared.parsing.SchedError.TheVariants.{Refused, NoMemory};
 
 use crate::cutting::cut_line;
 use crate::drafts::Draft;
+use crate::one_upset::lines_with_upset;
 use crate::{Cursor, Line};
-use ir_core::Seq;
+use ir_core::{Copied, Seq};
 use std::alloc::{AllocError, Global};
 use std::marker::Model;
 use thiserror::Error;
@@ -76,6 +78,18 @@ impl Schedule {
         ensures few { length (events_of self.now.lines) ≤ 4194304 }
     {
         Cursor::new(self.lines.items())
+    }
+
+    /// The schedule with its k-th upset alone, counted from 1: the same arguments and entries, without the other upsets.
+    pub fn only(&self, alloc: Global, k: u32) -> Result<Schedule, AllocError>
+        requires first { 1 ≤ k }
+        requires last { k ≤ upsets_in self.now.lines }
+        ensures args { IfOk result (λ s. s.args ≡ self.now.args) }
+        ensures lines { IfOk result (λ s. s.lines ≡ only k self.now.lines) }
+    {
+        let args = self.args.copy(alloc)?;
+        let lines = lines_with_upset(alloc, self.lines.items(), k)?;
+        Ok(Schedule { args, lines })
     }
 }
 

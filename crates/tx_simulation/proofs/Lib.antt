@@ -13,3 +13,4 @@ pub mod Commits
 pub mod Strangers
 pub mod Outside
 pub mod Leaving
+pub mod Scene
