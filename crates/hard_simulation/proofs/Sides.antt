@@ -44,3 +44,8 @@ pub either-on : (sides : Sides) (P Q : Type 0) → On sides M P → On sides S Q
 either-on Both P Q p q f = p
 either-on (Alone M) P Q p q f = p
 either-on (Alone S) P Q p q f = f q
+
+-- two sides that differ where they should agree: some side is hurt
+pub hurt-both : (sides : Sides) (P Q : Type 0) → On sides M P → On sides S Q → (P → Q → ⊥) → IsHurt sides
+hurt-both Both P Q p q n = absurd (n p q)
+hurt-both (Alone side) P Q p q n = tt

@@ -54,7 +54,7 @@ use Rattle.hard_frames.specs.Frames as hard_frame
 use Rattle.hard_machine.specs.State.{State}
 use Rattle.hard_machine.specs.Step as hard
 use Rattle.hard_simulation.specs.Image.{IsImage, Image, Over, Marked as MarkedImage, Phi, Next, ticks_onto, checks_onto, copies_onto}
-use Rattle.hard_simulation.proofs.Sides.{Sides, Both, Alone, On, IsHurt, on-map, hurt-if, either-on}
+use Rattle.hard_simulation.proofs.Sides.{Sides, On, IsHurt, on-map, hurt-if, hurt-both, either-on}
 use Rattle.hard_simulation.proofs.Files.{AgreeBut, AreFresh, first-among, fresh-rest, copied-one, but-none}
 use Rattle.hard_simulation.proofs.Instructions.{AreSame, same-more, acts-alike, doubled-assigns, doubled-destination, single-destination, unflagged-action, unflagged-destination, flow-doubled, flow-single, phi-faults, checked-reads}
 use Rattle.hard_simulation.proofs.Headed.{heads-layout, heads-callees}
@@ -121,11 +121,6 @@ gives sides side l callees file registers inst word doubled assigns on = by_acti
       where
         never : {action : Action} → action ≡ Assign word → action ≡ Fault cause → ⊥
         never f g = let both : Assign word ≡ Fault cause = sym f ∙ g in cc
-
--- two sides that differ where they should agree: some side is hurt
-hurt-both : (sides : Sides) (P Q : Type 0) → On sides M P → On sides S Q → (P → Q → ⊥) → IsHurt sides
-hurt-both Both P Q p q n = absurd (n p q)
-hurt-both (Alone side) P Q p q n = tt
 
 -- an operand more is done
 more-done : (operand : Ty × Val) (done operands : List (Ty × Val)) → done ++ operand ∷ operands ≡ (done ++ operand ∷ []) ++ operands

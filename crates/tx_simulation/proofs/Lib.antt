@@ -4,6 +4,7 @@ pub mod Inner
 pub mod Kept
 pub mod Lines
 pub mod Owners
+pub mod Reading
 pub mod Points
 pub mod Races
 pub mod Walks
@@ -14,3 +15,5 @@ pub mod Strangers
 pub mod Outside
 pub mod Leaving
 pub mod Scene
+pub mod Silent
+pub mod Checking

@@ -46,7 +46,7 @@ use Rattle.hard_frames.specs.Code.{blocks_at, list_at}
 use Rattle.hard_simulation.specs.Image.{copies_onto}
 use Rattle.hard_simulation.proofs.Sides.{Sides, Both, On}
 use Rattle.hard_simulation.proofs.Files.{AreFresh, is_among}
-use Rattle.hard_simulation.proofs.Instructions.{AreSame}
+use Rattle.tx_simulation.proofs.Reading.{AreSameIn}
 use Rattle.hard_simulation.proofs.Points.{source_code, hard_code}
 use Rattle.hard_meaning.specs.State.{Mode, Free, Inside, is_inside}
 use Rattle.hard_meaning.specs.Windows.{is_effect, is_edge_checked}
@@ -163,14 +163,14 @@ pub data Stands (m : ModuleParts) (names : ℕ → Bool) (edged : Bool) (sides :
       → code ≡ checks_onto (checked_when inst) operands (body_of m inst ++ rest)
       → past ≡ checks_passed (checked_when inst) done before
       → checked_before inst ≡ done ++ operands → LooseRows m behind rest
-      → IfTrue (is_effect (is_inside mode) edged inst) (AreSame masters registers done)
+      → IfTrue (is_effect (is_inside mode) edged inst) (AreSameIn masters registers done)
       → On sides M (AgreeIn names masters registers) → On sides S (AgreeIn names shadows registers)
       → Stands m names edged sides mode mem left registers past code masters shadows
   -- outside, between the end of a transaction and the call of an external
   Outside : (inst : Inst) (behind : List Inst) (rest before : List HInst) → left ≡ inst ∷ behind
       → code ≡ core_onto inst rest → past ≡ End ∷ checks_passed Always (checked_before inst) before → IsFree mode → is_done_twice inst ≡ false
       → is_effect false edged inst ≡ true → checked_when inst ≡ Always
-      → LooseRows m behind rest → AreSame masters registers (checked_before inst)
+      → LooseRows m behind rest → AreSameIn masters registers (checked_before inst)
       → On sides M (AgreeIn names masters registers) → On sides S (AgreeIn names shadows registers)
       → Stands m names edged sides mode mem left registers past code masters shadows
   -- between master and shadow of an operator or a plain load

@@ -158,9 +158,25 @@ module _ (mode : Mode) (c : Scene mode) where
   pub defined : (cause : Cause) → (step c.m c.s c.t).1 ≡ Undefined cause → ⊥
   defined cause e = good-step c.m c.arguments c.turns c.good c.t cause (ap (λ (state : SourceState). (step c.m state c.t).1) c.facts.state ∙ e)
 
+  -- where an instruction stands in the module, at the frame's place
+  pub record InPlace (inst : Inst) : Type 0 where
+    pub f : FuncParts
+    pub stands : slice_get c.m.funcs c.a.frame.function ≡ Some f
+    pub block : Block
+    pub there : slice_get f.blocks c.a.frame.block ≡ Some block
+    pub at : slice_get block.insts c.a.frame.index ≡ Some inst
+
   module _ (inst : Inst) (after : List Inst) (left : source_code c.m c.a.frame ≡ inst ∷ after) where
     pub found : inst_at c.m c.a.frame ≡ Some inst
     found = get-drop _ c.a.frame.index inst after left
+
+    pub in-place : InPlace inst
+    in-place =
+        let blocks : source_state.blocks_at c.m.funcs c.a.frame.function ≡ placed.f.blocks =
+        ap (λ (o : Option FuncParts). option_map_or (λ (f : FuncParts). f.blocks) o []) placed.stands in
+        let in_it = in-block placed.f.blocks c.a.frame.block c.a.frame.index inst
+        (ap (λ (blocks : List Block). slice_get (source_state.code_at blocks c.a.frame.block) c.a.frame.index) (sym blocks) ∙ found) in
+        record { f = placed.f; stands = placed.stands; block = in_it.block; there = in_it.there; at = in_it.at }
 
     -- what the source does next by itself can be done
     pub can : IsAlone (action_in c.m c.a.frame inst) → failure (frames c.m) c.s.process.memory.places c.t c.a (action_in c.m c.a.frame inst) ≡ None
@@ -175,12 +191,9 @@ module _ (mode : Mode) (c : Scene mode) where
 
     pub suited : IsSuited c.m inst (action_in c.m c.a.frame inst)
     suited =
-        let blocks : source_state.blocks_at c.m.funcs c.a.frame.function ≡ placed.f.blocks =
-        ap (λ (o : Option FuncParts). option_map_or (λ (f : FuncParts). f.blocks) o []) placed.stands in
-        let in_it = in-block placed.f.blocks c.a.frame.block c.a.frame.index inst
-        (ap (λ (blocks : List Block). slice_get (source_state.code_at blocks c.a.frame.block) c.a.frame.index) (sym blocks) ∙ found) in
+        let place : InPlace inst = in-place in
         action-suits c.m (layout_of c.m) c.a.frame.registers inst c.accepted
-        (inst-calls c.m c.a.frame.function c.a.frame.block c.a.frame.index placed.f in_it.block inst c.accepted placed.stands in_it.there in_it.at)
+        (inst-calls c.m c.a.frame.function c.a.frame.block c.a.frame.index place.f place.block inst c.accepted place.stands place.there place.at)
 
     -- what it reads has words
     pub reads : ReadsWords c.m c.a.frame inst
