@@ -14,3 +14,4 @@ pub mod Strangers
 pub mod Outside
 pub mod Leaving
 pub mod Scene
+pub mod Named
