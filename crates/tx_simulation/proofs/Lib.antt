@@ -15,3 +15,5 @@ pub mod Outside
 pub mod Leaving
 pub mod Scene
 pub mod Named
+pub mod Blocks
+pub mod Entries
