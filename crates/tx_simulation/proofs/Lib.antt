@@ -17,3 +17,4 @@ pub mod Scene
 pub mod Named
 pub mod Blocks
 pub mod Entries
+pub mod Edges
