@@ -18,3 +18,4 @@ pub mod Named
 pub mod Blocks
 pub mod Entries
 pub mod Edges
+pub mod Landing
