@@ -189,7 +189,7 @@ pub bit-width : width_of (types.Int W1) ≡ Some W1
 unfolding opened.roll-Ty denote.Hole.Carrier.roll
 bit-width = ap width_step (out-roll-Ty (Ty-F.Int W1))
 
-bit-word : (l : LayoutParts) (file : List (Option ℕ)) (value : Val) → typed_word l file (types.Int W1) value ≡ word_at l file W1 value
+pub bit-word : (l : LayoutParts) (file : List (Option ℕ)) (value : Val) → typed_word l file (types.Int W1) value ≡ word_at l file W1 value
 bit-word l file value = ap (option_and_then (λ w. word_at l file w value)) bit-width
 
 -- the master of the name takes the direction, whatever its file

@@ -63,32 +63,33 @@ pub data IsLanding (m : ModuleParts) (h : HardParts) (sides : Sides) (mode : Mod
 -- ---- an edge
 
 -- the edge to a label, in the source and in its image
-record Edge (m : ModuleParts) (h : HardParts) (f : FuncParts) (a : SourceFrame) (inst : Inst) (label : Loc) (n : ℕ) (target : Block) : Type 0 where
-  blocks : List HBlock
-  blocks_at : hard_text.blocks_at h a.function ≡ blocks
-  image : IsFuncImage (IsLooseCode m) f blocks
-  from : Block
-  leaves : slice_get f.blocks a.block ≡ Some from
-  there : slice_get from.insts a.index ≡ Some inst
-  last : length from.insts ≡ suc a.index
-  hard_from : HBlock
-  hard_leaves : slice_get blocks a.block ≡ Some hard_from
-  from_label : hard_from.label ≡ from.label
-  hard_target : HBlock
-  hard_arrives : slice_get blocks n ≡ Some hard_target
-  phis : (side : Side) → hard_frame.phis_on side hard_target ≡ phis_of target.insts ++ edge_phis_on (image.edges.of n) f.blocks label side
-  arm : (side : Side) → arm_from from.label (map (edge_arm label side) (predecessors f.blocks label)) ≡ Some (direction (guard_of from) label side)
-  guard : guard_of from ≡ guard_in inst
-  rest : List HInst
-  list : hard_target.list ≡ check_for (image.edges.of n) ++ rest
-  rows : LooseRows m target.insts rest
+pub record Edge (m : ModuleParts) (h : HardParts) (f : FuncParts) (a : SourceFrame) (inst : Inst) (label : Loc) (n : ℕ) (target : Block) : Type 0 where
+  pub blocks : List HBlock
+  pub blocks_at : hard_text.blocks_at h a.function ≡ blocks
+  pub image : IsFuncImage (IsLooseCode m) f blocks
+  pub from : Block
+  pub leaves : slice_get f.blocks a.block ≡ Some from
+  pub there : slice_get from.insts a.index ≡ Some inst
+  pub last : length from.insts ≡ suc a.index
+  pub hard_from : HBlock
+  pub hard_leaves : slice_get blocks a.block ≡ Some hard_from
+  pub from_label : hard_from.label ≡ from.label
+  pub hard_target : HBlock
+  pub hard_arrives : slice_get blocks n ≡ Some hard_target
+  pub heads : hard_target.phis ≡ flat_map phi_image target.insts ++ phis_for (image.edges.of n) f.blocks label
+  pub phis : (side : Side) → hard_frame.phis_on side hard_target ≡ phis_of target.insts ++ edge_phis_on (image.edges.of n) f.blocks label side
+  pub arm : (side : Side) → arm_from from.label (map (edge_arm label side) (predecessors f.blocks label)) ≡ Some (direction (guard_of from) label side)
+  pub guard : guard_of from ≡ guard_in inst
+  pub rest : List HInst
+  pub list : hard_target.list ≡ check_for (image.edges.of n) ++ rest
+  pub rows : LooseRows m target.insts rest
 
 module _ (m : ModuleParts) (h : HardParts) (image : IsLooseImage m h) (accepted : IsAccepted m) where
-  same-layout : layout_of h.heads ≡ layout_of m
+  pub same-layout : layout_of h.heads ≡ layout_of m
   same-layout = ap layout_of image.heads ∙ heads.layout-heads m
 
   -- a branch that stands at a frame's place leads along one
-  edge-to : (a : SourceFrame) (inst : Inst) (label : Loc) (placed : IsPlaced m a.function a.block a.index a.registers)
+  pub edge-to : (a : SourceFrame) (inst : Inst) (label : Loc) (placed : IsPlaced m a.function a.block a.index a.registers)
       → source_state.inst_at m a ≡ Some inst → is_terminator inst ≡ true → IsIn label (labels_of inst)
       → (n : ℕ) → number_of placed.f.blocks label ≡ Some n → (target : Block) → slice_get placed.f.blocks n ≡ Some target → Edge m h placed.f a inst label n target
   edge-to a inst label placed found ends one n number target arrives = record {
@@ -104,9 +105,9 @@ module _ (m : ModuleParts) (h : HardParts) (image : IsLooseImage m h) (accepted 
     from_label = hard_from.2.label;
     hard_target = hard_to.0;
     hard_arrives = hard_to.1;
+    heads = heads;
     phis = λ side. phis-alike side hard_to.0 target.insts (hard.image.edges.of n) placed.f.blocks label
-        (begins-well-at m a.function n target accepted (ap (λ (blocks : List Block). slice_get blocks n) blocks-are ∙ arrives))
-        (hard_to.2.phis ∙ ap (λ (to : Loc). flat_map phi_image target.insts ++ phis_for (hard.image.edges.of n) placed.f.blocks to) label-is);
+        (begins-well-at m a.function n target accepted (ap (λ (blocks : List Block). slice_get blocks n) blocks-are ∙ arrives)) heads;
     arm = λ side. arm-found label side here.block placed.f.blocks (a.block, here.there) (leads-to label here.block a.index inst here.at last one) alone;
     guard = guard-is here.block a.index inst here.at last;
     rest = hard_to.2.keeps.rest;
@@ -141,13 +142,16 @@ module _ (m : ModuleParts) (h : HardParts) (image : IsLooseImage m h) (accepted 
       hard_to : (block : HBlock) × (slice_get hard.blocks n ≡ Some block) × IsBlockImage (IsLooseCode m) placed.f n target (hard.image.edges.of n) block
       hard_to = hard-block m placed.f hard.blocks hard.image n target arrives
 
+      heads : hard_to.0.phis ≡ flat_map phi_image target.insts ++ phis_for (hard.image.edges.of n) placed.f.blocks label
+      heads = hard_to.2.phis ∙ ap (λ (to : Loc). flat_map phi_image target.insts ++ phis_for (hard.image.edges.of n) placed.f.blocks to) label-is
+
       -- the block to which it goes is no entry
       copied : (k : ℕ) → number_of placed.f.blocks label ≡ Some k → slice_get placed.f.blocks k ≡ Some target
           → map copy_of (copied_in placed.f k) ++ hard_to.2.keeps.rest ≡ hard_to.2.keeps.rest
       copied zero number at = absurd (never-enters m a.function a.block a.index placed.f here.block target inst label accepted placed.stands here.there here.at last one number at)
       copied (suc k) number at = refl
 
-  hard-jumps : (f : FuncParts) (a : SourceFrame) (b : Frame) (inst : Inst) (label : Loc) (n : ℕ) (target : Block) (edge : Edge m h f a inst label n target)
+  pub hard-jumps : (f : FuncParts) (a : SourceFrame) (b : Frame) (inst : Inst) (label : Loc) (n : ℕ) (target : Block) (edge : Edge m h f a inst label n target)
       → b.function ≡ a.function → b.block ≡ a.block → number_of f.blocks label ≡ Some n
       → hard_frame.jumped h b label ≡ hard_frame.landed_with b n (hard_frame.words_on (layout_of h.heads) b edge.hard_from.label edge.hard_target M)
       (hard_frame.words_on (layout_of h.heads) b edge.hard_from.label edge.hard_target S)

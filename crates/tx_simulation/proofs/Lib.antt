@@ -19,3 +19,4 @@ pub mod Blocks
 pub mod Entries
 pub mod Edges
 pub mod Landing
+pub mod Straying
