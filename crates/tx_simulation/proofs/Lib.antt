@@ -20,3 +20,4 @@ pub mod Entries
 pub mod Edges
 pub mod Landing
 pub mod Straying
+pub mod Opening
