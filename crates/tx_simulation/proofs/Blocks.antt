@@ -1,8 +1,8 @@
 -- The functions and blocks of a loose image, by number and by label; and that no block checks its edges where no branch leads to it.
-use Rattle.std.proofs.Common.{ℕ, zero, suc, ◌≡◌, ◌∙◌, ◌⊎◌, inl, inr, ◌<◌, ◌≤◌, ◌+◌, ◌-◌, Bool, true, false, List, [], ◌∷◌, ◌++◌, drop, map, find, length, get_or, Option, Some, None, slice_get, refl, ap, sym, subst, arith}
+use Rattle.std.proofs.Common.{ℕ, zero, suc, ◌≡◌, ◌∙◌, ◌⊎◌, inl, inr, ◌<◌, ◌≤◌, ◌+◌, ◌-◌, Bool, true, false, List, [], ◌∷◌, drop, length, get_or, Option, Some, None, slice_get, refl, ap, sym, arith}
 use Rattle.std.specs.Prelude.{nat_eq, if◌then◌else◌}
-use Rattle.std.specs.List.{list_any, filter_map, flat_map}
-use Rattle.std.specs.Option.{option_map, option_map_or, option_or, is_some}
+use Rattle.std.specs.List.{list_any}
+use Rattle.std.specs.Option.{option_map_or, option_or, is_some}
 use Rattle.std.proofs.lemmas.Bool.{eq-eqb, eqb-true}
 use Rattle.std.proofs.lemmas.Option.{slice_get_cases, slice_get_within}
 use Rattle.ir_core.proofs.Lengths.{both_true}
@@ -10,16 +10,15 @@ use Rattle.ir_core.specs.declared.types.Loc.{Loc}
 use Rattle.ir_core.specs.declared.instruction.Inst.{Inst}
 use Rattle.ir_core.specs.declared.instruction.Block.{Block}
 use Rattle.ir_core.specs.Module.{ModuleParts, FuncParts}
-use Rattle.ir_core.specs.Instructions.{is_phi}
-use Rattle.ir_flow.specs.Edges.{labels_of, last_labels, number_of, numbered_from}
+use Rattle.ir_flow.specs.Edges.{labels_of, number_of, numbered_from}
 use Rattle.ir_check.specs.Faults.{IsAccepted}
-use Rattle.ir_check.proofs.Members.{IsIn, next-in, any-position, at-position, found-in}
+use Rattle.ir_check.proofs.Members.{IsIn, any-position, at-position}
 use Rattle.inst_meaning.specs.Phis.{phi_count}
 use Rattle.src_laws.proofs.Accepted.{labels-apart}
-use Rattle.src_laws.proofs.Labels.{IsLabelled, labelled}
+use Rattle.src_laws.proofs.Labels.{labelled}
 use Rattle.hard_ir.specs.declared.instruction.HInst.{HInst}
 use Rattle.hard_ir.specs.declared.instruction.HBlock.{HBlock}
-use Rattle.hard_ir.specs.EdgeChecks.{guard_of, leads_to, guards, is_edge_target}
+use Rattle.hard_ir.specs.EdgeChecks.{guard_of, leads_to, guards}
 use Rattle.hard_ir.specs.Hardened.{HardParts}
 use Rattle.hard_ir.specs.Images.{EdgeNames, IsBlockImage, IsFuncImage, IsLooseCode, IsLooseImage, LooseRows, Over, CutMark, BeginMark, Phi, Next}
 use Rattle.hard_frames.specs.Code as hard_text

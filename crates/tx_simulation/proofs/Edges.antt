@@ -1,9 +1,9 @@
 -- What the phis of a block take along an edge: those of the source's block, and those of the name that checks its edges.
-use Rattle.std.proofs.Common.{ℕ, zero, suc, ◌≡◌, ◌≢◌, ◌∙◌, ◌+◌, ◌-◌, ◌<◌, ◌%◌, ◌^◌, Bool, true, false, not, cond, List, [], ◌∷◌, ◌++◌, map, filter, find, length, Option, Some, None, slice_get, refl, ap, sym, subst, arith}
+use Rattle.std.proofs.Common.{ℕ, zero, suc, ◌≡◌, ◌∙◌, ◌-◌, ◌<◌, ◌%◌, Bool, true, false, List, [], ◌∷◌, ◌++◌, map, length, Option, Some, None, slice_get, refl, ap, sym, subst, arith}
 use Rattle.std.specs.Prelude.{nat_eq, ◌==◌, if◌then◌else◌}
 use Rattle.std.specs.List.{list_any, filter_map, flat_map}
 use Rattle.std.specs.Option.{option_map, option_map_or, option_and_then}
-use Rattle.std.proofs.lemmas.Bool.{eqb-true, eqb-false, eq-eqb}
+use Rattle.std.proofs.lemmas.Bool.{eqb-true, eq-eqb}
 use Rattle.std.proofs.lemmas.List.Elements.{filter_map-append}
 use Rattle.ir_core.specs.declared.types.Ty as opened
 use Rattle.ir_core.specs.declared.types.Ty.TheVariants as types
@@ -30,7 +30,7 @@ use Rattle.inst_meaning.specs.Operands.{width_step, width_of, word_at, typed_wor
 use Rattle.inst_meaning.specs.Phis.{phis_of, arm_from, phi_word, phi_words_with, phi_words}
 use Rattle.inst_meaning.specs.Registers.{get}
 use Rattle.hard_ir.specs.declared.instruction.HBlock.{HBlock}
-use Rattle.hard_ir.specs.EdgeChecks.{Guard, guard_in, guard_at, guard_of, leads_to, predecessors, bit, direction, edge_arm, edge_phi, edge_phis}
+use Rattle.hard_ir.specs.EdgeChecks.{Guard, guard_in, guard_at, guard_of, leads_to, predecessors, bit, direction, edge_arm}
 use Rattle.hard_ir.specs.Image.{phi_image}
 use Rattle.hard_ir.specs.Images.{phis_for}
 use Rattle.hard_frames.specs.Frames.{phi_on, phis_on}

@@ -1,7 +1,7 @@
 -- Frames at the entry of a function, new threads, and frames to which a call has come back.
-use Rattle.std.proofs.Common.{ℕ, zero, suc, ◌≡◌, ◌∙◌, ◌⊎◌, inl, inr, ◌<◌, ◌≤◌, Bool, true, false, ◌||◌, List, [], ◌∷◌, ◌++◌, map, length, get_or, Option, Some, None, slice_get, refl, ap, sym, subst, arith}
+use Rattle.std.proofs.Common.{ℕ, ◌≡◌, ◌∙◌, Bool, true, false, ◌||◌, List, [], ◌∷◌, ◌++◌, map, length, Option, Some, None, slice_get, refl, ap, sym, subst}
 use Rattle.std.specs.Prelude.{nat_eq}
-use Rattle.std.specs.List.{zip, list_any}
+use Rattle.std.specs.List.{zip}
 use Rattle.std.specs.Option.{option_map, option_map_or, is_some}
 use Rattle.std.proofs.lemmas.Bool.{eqb-true, eqb-false}
 use Rattle.ir_core.specs.declared.types.Ty.{Ty}
@@ -25,22 +25,19 @@ use Rattle.src_laws.proofs.Callees.{Enters}
 use Rattle.hard_ir.specs.declared.instruction.HInst.{HInst}
 use Rattle.hard_ir.specs.declared.instruction.HBlock.{HBlock}
 use Rattle.hard_ir.specs.Image.{copies}
-use Rattle.hard_ir.specs.Images.{EdgeNames, CodeRule, IsBlockImage, IsFuncImage, IsLooseCode, IsLooseImage, LooseRows, copied_in, check_for}
+use Rattle.hard_ir.specs.Images.{IsLooseImage, LooseRows, check_for}
 use Rattle.hard_ir.specs.Hardened.{HardParts}
-use Rattle.hard_ir.specs.EdgeChecks.{is_edge_target}
 use Rattle.hard_frames.specs.declared.state.Frame.{Frame}
 use Rattle.hard_frames.specs.Code as hard_text
 use Rattle.hard_frames.specs.Frames as hard_frame
-use Rattle.hard_simulation.specs.Image.{copies_onto}
 use Rattle.hard_simulation.proofs.Heads as heads
-use Rattle.hard_simulation.proofs.Sides.{Sides, Both, On, on-map, on-pure}
-use Rattle.hard_simulation.proofs.Files.{is_among, AreFresh, one-fresh, names-alone, untouched}
-use Rattle.hard_simulation.proofs.Files as files
+use Rattle.hard_simulation.proofs.Sides.{Sides, Both, on-map, on-pure}
+use Rattle.hard_simulation.proofs.Files.{is_among, one-fresh, names-alone, untouched}
 use Rattle.hard_simulation.proofs.Points.{source_code, hard_code}
 use Rattle.hard_meaning.specs.State.{Mode}
-use Rattle.tx_simulation.proofs.Points.{names_at, AgreeIn, AgreeBut, Stands, Nowhere, At, Copying, is_edged, past_code, IsFrame, IsCaller, Known, Now, Fresh, AreFrames, alike}
+use Rattle.tx_simulation.proofs.Points.{names_at, AgreeIn, AgreeBut, Stands, Nowhere, At, Copying, is_edged, past_code, IsFrame, IsCaller, Fresh, AreFrames, alike}
 use Rattle.process_laws.proofs.Likeness as likeness
-use Rattle.tx_simulation.proofs.Named.{agree-refl, put-agrees, names-are}
+use Rattle.tx_simulation.proofs.Named.{agree-refl, put-agrees}
 use Rattle.tx_simulation.proofs.Points.{IsThreadOn}
 use Rattle.tx_simulation.proofs.Blocks.{IsHardFunc, hard-func, hard-block, entry-unnamed}
 

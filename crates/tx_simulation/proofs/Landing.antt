@@ -1,10 +1,8 @@
 -- A branch along an edge: where the source lands, the hardened program lands too, as far as its known sides tell; and where a struck condition
 -- leads a guarded branch elsewhere, the check of the edge is next, and fails.
-use Rattle.std.proofs.Common.{ℕ, zero, suc, ◌≡◌, ◌≢◌, ◌⊎◌, inl, inr, ◌∙◌, ◌<◌, Bool, true, false, not, List, [], ◌∷◌, ◌++◌, map, drop, length, Option, Some, None, slice_get, refl, ap, sym, subst, arith}
-use Rattle.std.specs.Prelude.{nat_eq}
+use Rattle.std.proofs.Common.{ℕ, zero, suc, ◌≡◌, ◌∙◌, Bool, true, List, [], ◌++◌, map, drop, length, Option, Some, None, slice_get, refl, ap, sym, subst}
 use Rattle.std.specs.List.{flat_map}
-use Rattle.std.specs.Option.{option_map, option_map_or, option_and_then}
-use Rattle.std.proofs.lemmas.Bool.{eqb-true, eq-eqb}
+use Rattle.std.specs.Option.{option_map_or}
 use Rattle.ir_core.specs.declared.types.Loc.{Loc}
 use Rattle.ir_core.specs.declared.types.Ty.TheVariants as types
 use Rattle.ir_core.specs.declared.types.Width.TheVariants.{W1}
@@ -13,9 +11,8 @@ use Rattle.ir_core.specs.declared.values.Side.TheVariants.{M, S}
 use Rattle.ir_core.specs.declared.instruction.Inst.{Inst}
 use Rattle.ir_core.specs.declared.instruction.Block.{Block}
 use Rattle.ir_core.specs.Module.{ModuleParts, FuncParts}
-use Rattle.ir_layout.specs.Memory.{LayoutParts, layout_of}
+use Rattle.ir_layout.specs.Memory.{layout_of}
 use Rattle.ir_flow.specs.Edges.{labels_of, number_of}
-use Rattle.ir_flow.specs.Uses.{reg_in, regs_in, arms_in}
 use Rattle.ir_check.specs.Blocks.{is_terminator}
 use Rattle.ir_check.specs.Faults.{IsAccepted}
 use Rattle.ir_check.proofs.Members.{IsIn, of-take}
@@ -24,7 +21,7 @@ use Rattle.inst_meaning.specs.declared.actions.Action.TheVariants.{Jump}
 use Rattle.inst_meaning.specs.Action.{callees_of}
 use Rattle.inst_meaning.specs.Operands.{typed_word}
 use Rattle.inst_meaning.specs.Phis.{phi_count, phis_of, arm_from, phi_words, all_assigned}
-use Rattle.inst_meaning.specs.Registers.{get, put}
+use Rattle.inst_meaning.specs.Registers.{get}
 use Rattle.inst_meaning.proofs.Puts.{put-here}
 use Rattle.inst_laws.proofs.Agreement.{AreSameIn, regs_of_phi, phi-words-same}
 use Rattle.src_meaning.specs.declared.state.Frame.{Frame as SourceFrame}
@@ -37,10 +34,10 @@ use Rattle.src_laws.proofs.Placed.{IsPlaced, InBlock, in-block}
 use Rattle.src_laws.proofs.Suits.{JumpsTo}
 use Rattle.hard_ir.specs.declared.instruction.HInst.{HInst}
 use Rattle.hard_ir.specs.declared.instruction.HBlock.{HBlock}
-use Rattle.hard_ir.specs.EdgeChecks.{Guard, guard_in, guard_of, predecessors, direction, edge_arm, edge_check}
+use Rattle.hard_ir.specs.EdgeChecks.{Guard, guard_in, guard_of, predecessors, direction, edge_arm}
 use Rattle.hard_ir.specs.Hardened.{HardParts}
 use Rattle.hard_ir.specs.Image.{copy_of, phi_image}
-use Rattle.hard_ir.specs.Images.{IsBlockImage, IsFuncImage, IsLooseCode, IsLooseImage, LooseRows, copied_in, phis_for, check_for, is_named}
+use Rattle.hard_ir.specs.Images.{IsBlockImage, IsFuncImage, IsLooseCode, IsLooseImage, LooseRows, copied_in, phis_for, check_for}
 use Rattle.hard_frames.specs.declared.state.Frame.{Frame}
 use Rattle.hard_frames.specs.Code as hard_text
 use Rattle.hard_frames.specs.Frames as hard_frame

@@ -21,3 +21,5 @@ pub mod Edges
 pub mod Landing
 pub mod Straying
 pub mod Opening
+pub mod Growing
+pub mod Loose

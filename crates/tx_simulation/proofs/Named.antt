@@ -1,19 +1,16 @@
 -- Files of registers that agree in the names of a function; which registers those are; and that no two of its blocks have one label.
-use Rattle.std.proofs.Common.{ℕ, zero, suc, ◌≡◌, ◌≢◌, ◌∙◌, ◌+◌, Bool, true, false, ◌||◌, cond, List, [], ◌∷◌, ◌++◌, map, Option, Some, None, slice_get, refl, ap, sym, subst, arith, append_assoc}
-use Rattle.std.specs.Prelude.{nat_eq, if◌then◌else◌}
-use Rattle.std.specs.List.{list_any, flat_map}
-use Rattle.std.specs.Option.{option_map_or, option_or}
+use Rattle.std.proofs.Common.{ℕ, ◌≡◌, ◌≢◌, ◌∙◌, Bool, true, false, List, [], ◌∷◌, ◌++◌, map, Option, Some, slice_get, refl, ap, sym, subst}
+use Rattle.std.specs.Prelude.{nat_eq}
+use Rattle.std.specs.List.{flat_map}
+use Rattle.std.specs.Option.{option_map_or}
 use Rattle.std.proofs.lemmas.Bool.{eqb-true, eqb-false, eq-eqb}
-use Rattle.std.proofs.lemmas.Grind.{flat_map-append}
-use Rattle.ir_core.specs.declared.types.Ty.{Ty}
 use Rattle.ir_core.specs.declared.types.Loc.{Loc}
 use Rattle.ir_core.specs.declared.instruction.Inst.{Inst}
-use Rattle.ir_core.specs.declared.instruction.Inst.TheVariants as insts
 use Rattle.ir_core.specs.declared.instruction.Block.{Block}
 use Rattle.ir_core.specs.Instructions.{result_of}
 use Rattle.ir_core.specs.Module.{ModuleParts, FuncParts}
 use Rattle.ir_flow.specs.Uses.{reg_in, regs_in, arms_in}
-use Rattle.ir_check.proofs.Members.{IsIn, next-in, in-front, in-back, in-map, in-flat, any-in, or-later}
+use Rattle.ir_check.proofs.Members.{IsIn, next-in, in-front, in-back, in-flat, any-in}
 use Rattle.inst_meaning.specs.Registers.{get, put}
 use Rattle.inst_meaning.specs.Phis.{all_assigned}
 use Rattle.inst_meaning.proofs.Puts.{put-here, put-elsewhere}

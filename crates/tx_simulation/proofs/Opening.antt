@@ -1,9 +1,9 @@
 -- At the opening the machine stands for the source: thread 0 of both is at the entry of `main`, over one memory.
-use Rattle.std.proofs.Common.{ℕ, zero, suc, ◌≡◌, ◌≢◌, ◌∙◌, false, true, List, [], ◌∷◌, Option, Some, None, slice_get, refl, ap, sym, subst, inl}
+use Rattle.std.proofs.Common.{ℕ, zero, suc, ◌≡◌, ◌∙◌, false, List, [], ◌∷◌, Some, slice_get, refl, ap, sym, subst, inl}
 use Rattle.ir_core.specs.Module.{ModuleParts}
 use Rattle.ir_layout.specs.Memory.{layout_of}
 use Rattle.ir_check.specs.Faults.{IsAccepted}
-use Rattle.mem_image.specs.Bytes.{Memory, IsWhole}
+use Rattle.mem_image.specs.Bytes.{Memory}
 use Rattle.mem_image.proofs.WholeOpening.{opening-whole}
 use Rattle.process.specs.declared.state.Thread.{Thread}
 use Rattle.process.specs.State.{new_thread}
@@ -14,14 +14,13 @@ use Rattle.src_laws.proofs.Moves.{main-enters}
 use Rattle.hard_ir.specs.Hardened.{HardParts}
 use Rattle.hard_ir.specs.Images.{IsLooseImage}
 use Rattle.hard_laws.proofs.Accepted.{sound}
-use Rattle.hard_frames.specs.declared.state.Frame.{Frame}
 use Rattle.hard_frames.specs.Frames as hard_frame
 use Rattle.hard_simulation.proofs.Heads as heads
 use Rattle.hard_simulation.proofs.Sides.{Both}
-use Rattle.hard_meaning.specs.State.{Mode, Free, Worker, State, new_worker, opening}
+use Rattle.hard_meaning.specs.State.{Mode, Free, Worker, new_worker, opening}
 use Rattle.tx_simulation.proofs.Owners.{AreFree}
 use Rattle.tx_simulation.proofs.Lines.{AreApart}
-use Rattle.tx_simulation.proofs.Facts.{IsWorker, watched_in, AreNamed, mode_at, AreWorkers, Facts, machine_of}
+use Rattle.tx_simulation.proofs.Facts.{IsWorker, watched_in, AreNamed, mode_at, Facts, machine_of}
 use Rattle.tx_simulation.proofs.Entries.{new-stands}
 use Rattle.tx_simulation.proofs.Holds.{Holds, Runs}
 

@@ -1,10 +1,10 @@
 -- A guarded branch whose condition was struck on the master's side: it leads to a block that checks its edges, and there the words of the edge
 -- differ, since the shadow of the condition is the source's.
-use Rattle.std.proofs.Common.{ℕ, zero, suc, ◌≡◌, ◌≢◌, ◌⊎◌, inl, inr, ◌∙◌, ◌%◌, Bool, true, false, not, ◌&&◌, ◌||◌, List, [], ◌∷◌, ◌++◌, map, drop, find, length, Option, Some, None, slice_get, refl, ap, sym, subst, arith, append-nil}
+use Rattle.std.proofs.Common.{ℕ, zero, suc, ◌≡◌, ◌≢◌, ◌⊎◌, inl, inr, ◌∙◌, Bool, true, false, not, ◌&&◌, List, [], ◌∷◌, ◌++◌, drop, find, length, Option, Some, None, slice_get, refl, ap, sym, subst, arith, append-nil}
 use Rattle.std.specs.Prelude.{nat_eq, ◌==◌, if◌then◌else◌}
 use Rattle.std.specs.List.{flat_map}
-use Rattle.std.specs.Option.{option_map, option_map_or}
-use Rattle.std.proofs.lemmas.Bool.{eqb-true, eqb-false, eq-eqb}
+use Rattle.std.specs.Option.{option_map_or}
+use Rattle.std.proofs.lemmas.Bool.{eqb-true, eq-eqb}
 use Rattle.ir_core.proofs.Lengths.{both_true}
 use Rattle.ir_core.specs.declared.types.Loc.{Loc}
 use Rattle.ir_core.specs.declared.types.Ty.TheVariants as types
@@ -17,18 +17,15 @@ use Rattle.ir_core.specs.declared.instruction.Inst.{Inst}
 use Rattle.ir_core.specs.declared.instruction.Inst.TheVariants as insts
 use Rattle.ir_core.specs.declared.instruction.Block.{Block}
 use Rattle.ir_core.specs.Module.{ModuleParts, FuncParts}
-use Rattle.ir_core.specs.Instructions.{is_phi}
 use Rattle.ir_layout.specs.Memory.{layout_of}
-use Rattle.ir_flow.specs.Edges.{labels_of, number_of}
-use Rattle.ir_flow.specs.Uses.{regs_in}
+use Rattle.ir_flow.specs.Edges.{number_of}
 use Rattle.ir_check.specs.Faults.{IsAccepted}
 use Rattle.ir_check.proofs.Members.{IsIn, found-in}
-use Rattle.inst_meaning.specs.declared.actions.Action.{Action}
 use Rattle.inst_meaning.specs.declared.actions.Action.TheVariants.{Jump}
 use Rattle.inst_meaning.specs.Action.{on_word, callees_of}
 use Rattle.inst_meaning.specs.Operands.{word_at, typed_word}
 use Rattle.inst_meaning.specs.Phis.{phis_of, phi_words, all_assigned}
-use Rattle.inst_meaning.specs.Registers.{get, put}
+use Rattle.inst_meaning.specs.Registers.{get}
 use Rattle.inst_meaning.proofs.Puts.{put-here}
 use Rattle.process.specs.declared.state.CallStack.{CallStack}
 use Rattle.process.specs.declared.state.Thread.TheVariants.{Running}
@@ -40,7 +37,7 @@ use Rattle.src_laws.proofs.Placed.{IsPlaced, InBlock, in-block}
 use Rattle.hard_ir.specs.declared.instruction.HInst.{HInst}
 use Rattle.hard_ir.specs.declared.instruction.HInst.TheVariants.{Cut, Begin, Do}
 use Rattle.hard_ir.specs.declared.instruction.HBlock.{HBlock}
-use Rattle.hard_ir.specs.EdgeChecks.{Guard, guard_in, guard_of, direction, bit, edge_check}
+use Rattle.hard_ir.specs.EdgeChecks.{Guard, guard_in, direction, bit, edge_check}
 use Rattle.hard_ir.specs.Hardened.{HardParts}
 use Rattle.hard_ir.specs.Image.{phi_image}
 use Rattle.hard_ir.specs.Images.{IsBlockImage, IsLooseCode, IsLooseImage, LooseRows, Over, CutMark, BeginMark, Phi, Next, phis_for, check_for}
