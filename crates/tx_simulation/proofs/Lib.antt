@@ -23,3 +23,4 @@ pub mod Straying
 pub mod Opening
 pub mod Growing
 pub mod Loose
+pub mod RenamedTypes
