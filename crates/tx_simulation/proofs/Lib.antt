@@ -24,3 +24,4 @@ pub mod Opening
 pub mod Growing
 pub mod Loose
 pub mod RenamedTypes
+pub mod RenamedMemory
