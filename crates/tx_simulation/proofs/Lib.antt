@@ -25,3 +25,4 @@ pub mod Growing
 pub mod Loose
 pub mod RenamedTypes
 pub mod RenamedMemory
+pub mod RenamedActions
