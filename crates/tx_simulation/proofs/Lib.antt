@@ -26,3 +26,4 @@ pub mod Loose
 pub mod RenamedTypes
 pub mod RenamedMemory
 pub mod RenamedActions
+pub mod Renames
