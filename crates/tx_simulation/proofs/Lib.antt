@@ -27,3 +27,4 @@ pub mod RenamedTypes
 pub mod RenamedMemory
 pub mod RenamedActions
 pub mod Renames
+pub mod RenamedFrames
