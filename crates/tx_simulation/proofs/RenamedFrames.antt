@@ -118,3 +118,133 @@ module _ (r : Renaming) (apart : IsApart r.loc) where
         by_words None rest = refl
         by_words (Some word) None = refl
         by_words (Some word) (Some words) = refl
+
+-- ---- frames
+
+module _ (m other : ModuleParts) (r : Renames m other) where
+  -- the renaming inside a frame's function
+  abbrev pub within : Frame → Renaming
+  within frame = inside m other r frame.function
+
+  pub record SameFrame (a b : Frame) : Type 0 where
+    pub function : b.function ≡ a.function
+    pub block : b.block ≡ a.block
+    pub index : b.index ≡ a.index
+    pub mark : b.mark ≡ a.mark
+    pub waiting : b.waiting ≡ option_map (renamed_loc (within a)) a.waiting
+    pub registers : AgreeBy (r.loc a.function) a.registers b.registers
+
+  abbrev pub alike : Likeness Frame Frame (Unit {0})
+  alike = record { runs = λ i a b. SameFrame a b; waits = λ i a b. SameFrame a b; good = λ i. Unit {0} }
+
+  passes : (a b : Frame) → SameFrame a b → SameFrame (passed a) (passed b)
+  passes a b s = record { function = s.function; block = s.block; index = ap suc s.index; mark = s.mark; waiting = s.waiting; registers = s.registers }
+
+  results : (dst : Option Loc) (n : ℕ) (a b : Frame) → SameFrame a b → SameFrame (resulted dst n a) (resulted (option_map (renamed_loc (within a)) dst) n b)
+  results dst n a b s = record {
+    function = s.function;
+    block = s.block;
+    index = ap suc s.index;
+    mark = s.mark;
+    waiting = s.waiting;
+    registers = assigned-by (within a) (r.loc_apart a.function) dst n a.registers b.registers s.registers;
+  }
+
+  suspends : (dst : Option Loc) (a b : Frame) → SameFrame a b → SameFrame (suspended dst a) (suspended (option_map (renamed_loc (within a)) dst) b)
+  suspends dst a b s = record { function = s.function; block = s.block; index = ap suc s.index; mark = s.mark; waiting = refl; registers = s.registers }
+
+  resumes : (n : ℕ) (a b : Frame) → SameFrame a b → SameFrame (resumed n a) (resumed n b)
+  resumes n a b s = record {
+    function = s.function;
+    block = s.block;
+    index = s.index;
+    mark = s.mark;
+    waiting = refl;
+    registers = subst (λ (dst : Option Loc). AgreeBy (r.loc a.function) (assigned a.waiting n a.registers) (assigned dst n b.registers)) (flip s.waiting)
+        (assigned-by (within a) (r.loc_apart a.function) a.waiting n a.registers b.registers s.registers);
+  }
+
+  pub entries : (n : ℕ) (words : List ℕ) (mark : ℕ) → SameFrame (entry_frame m n words mark) (entry_frame other n words mark)
+  entries n words mark = record {
+    function = refl;
+    block = refl;
+    index = refl;
+    mark = refl;
+    waiting = refl;
+    registers = subst (λ (given : List (Loc × ℕ)). AgreeBy (r.loc n) (all_assigned (zip (params_at m.funcs n) words) []) (all_assigned given []))
+        (flip (ap (λ (params : List Loc). zip params words) (params-same m other r n) ∙ zip-same (inside m other r n) (r.loc_apart n) (params_at m.funcs n) words))
+        (all-by (inside m other r n) (r.loc_apart n) (zip (params_at m.funcs n) words) [] [] (record { same = λ at. refl }));
+  }
+
+  -- ---- edges
+
+  lands : (a b : Frame) (n : ℕ) (block : Block) (words : List (Loc × ℕ)) → SameFrame a b
+      → SameFrame (landed a n block words) (landed b n (renamed_block (within a) block) (map (renamed_word (within a) (r.loc_apart a.function)) words))
+  lands a b n block words s = record {
+    function = s.function;
+    block = refl;
+    index = count-same (within a) (r.loc_apart a.function) block.insts;
+    mark = s.mark;
+    waiting = s.waiting;
+    registers = all-by (within a) (r.loc_apart a.function) words a.registers b.registers s.registers;
+  }
+
+  -- both can go along the edge, or neither
+  abbrev AreJumps : Option Frame → Option Frame → Type 0
+  AreJumps x y = likeness.AreJumps alike tt x y
+
+  -- two frames that went
+  module _ (a b : Frame) (s : SameFrame a b) where
+    abbrev q : Renaming
+    q = within a
+
+    abbrev apart : IsApart q.loc
+    apart = r.loc_apart a.function
+
+    abbrev l : LayoutParts
+    l = layout_of m
+
+    abbrev others : LayoutParts
+    others = renamed_layout q r.type_apart r.sym_apart l
+
+    by-words : (n : ℕ) (target : Block) (o : Option (List (Loc × ℕ)))
+        → AreJumps (option_map (landed a n target) o) (option_map (landed b n (renamed_block q target)) (option_map (map (renamed_word q apart)) o))
+    by-words n target None = tt
+    by-words n target (Some words) = lands a b n target words s
+
+    by-target : (from : Block) (n : ℕ) (o : Option Block)
+        → AreJumps (option_and_then (land l a from n) o) (option_and_then (land others b (renamed_block q from) n) (option_map (renamed_block q) o))
+    by-target from n None = tt
+    by-target from n (Some target) =
+        subst (λ (o : Option (List (Loc × ℕ))). AreJumps (land l a from n target) (option_map (landed b n (renamed_block q target)) o))
+        (flip (ap (phi_words others b.registers (renamed_loc q from.label)) (phis-same q apart target.insts)
+        ∙ words-same q apart r.type_apart r.sym_apart l a.registers b.registers s.registers from.label (phis_of target.insts)))
+        (by-words n target (phi_words l a.registers from.label (phis_of target.insts)))
+
+    by-number : (from : Block) (blocks : List Block) (o : Option ℕ)
+        → AreJumps (option_and_then (λ n. option_and_then (land l a from n) (slice_get blocks n)) o)
+        (option_and_then (λ n. option_and_then (land others b (renamed_block q from) n) (slice_get (map (renamed_block q) blocks) n)) o)
+    by-number from blocks None = tt
+    by-number from blocks (Some n) =
+        subst (λ (o : Option Block). AreJumps (option_and_then (land l a from n) (slice_get blocks n)) (option_and_then (land others b (renamed_block q from) n) o))
+        (flip (slice_get-map (renamed_block q) blocks n)) (by-target from n (slice_get blocks n))
+
+    by-from : (blocks : List Block) (label : Loc) (o : Option Block)
+        → AreJumps (option_and_then (jump_from l blocks a label) o) (option_and_then (jump_from others (map (renamed_block q) blocks) b (renamed_loc q label)) (option_map (renamed_block q) o))
+    by-from blocks label None = tt
+    by-from blocks label (Some from) =
+        subst (λ (o : Option ℕ). AreJumps (jump_from l blocks a label from) (option_and_then (λ n. option_and_then (land others b (renamed_block q from) n) (slice_get (map (renamed_block q) blocks) n)) o))
+        (flip (numbers-same q apart 0 blocks label)) (by-number from blocks (number_of blocks label))
+
+    pub jumps : (label : Loc) → AreJumps (jumped m a label) (jumped other b (renamed_loc q label))
+    jumps label =
+        subst (λ (o : Option Frame). AreJumps (jumped m a label) o) (flip went) (by-from (blocks_at m.funcs a.function) label (slice_get (blocks_at m.funcs a.function) a.block))
+      where
+        went : jumped other b (renamed_loc q label)
+            ≡ option_and_then (jump_from others (map (renamed_block q) (blocks_at m.funcs a.function)) b (renamed_loc q label)) (option_map (renamed_block q) (slice_get (blocks_at m.funcs a.function) a.block))
+        went =
+            ap (λ (n : ℕ). jump_in (layout_of other) (blocks_at other.funcs n) b (renamed_loc q label)) s.function
+            ∙ ap (λ (blocks : List Block). jump_in (layout_of other) blocks b (renamed_loc q label)) (blocks-same m other r a.function)
+            ∙ ap (λ (layout : LayoutParts). jump_in layout (map (renamed_block q) (blocks_at m.funcs a.function)) b (renamed_loc q label)) (layout-same m other r)
+            ∙ ap (λ (n : ℕ). option_and_then (jump_from others (map (renamed_block q) (blocks_at m.funcs a.function)) b (renamed_loc q label)) (slice_get (map (renamed_block q) (blocks_at m.funcs a.function)) n)) s.block
+            ∙ ap (option_and_then (jump_from others (map (renamed_block q) (blocks_at m.funcs a.function)) b (renamed_loc q label))) (slice_get-map (renamed_block q) (blocks_at m.funcs a.function) a.block)
