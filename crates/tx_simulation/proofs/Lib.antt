@@ -28,3 +28,4 @@ pub mod RenamedMemory
 pub mod RenamedActions
 pub mod Renames
 pub mod RenamedFrames
+pub mod RenamedRuns

@@ -137,10 +137,10 @@ module _ (m other : ModuleParts) (r : Renames m other) where
   abbrev pub alike : Likeness Frame Frame (Unit {0})
   alike = record { runs = λ i a b. SameFrame a b; waits = λ i a b. SameFrame a b; good = λ i. Unit {0} }
 
-  passes : (a b : Frame) → SameFrame a b → SameFrame (passed a) (passed b)
+  pub passes : (a b : Frame) → SameFrame a b → SameFrame (passed a) (passed b)
   passes a b s = record { function = s.function; block = s.block; index = ap suc s.index; mark = s.mark; waiting = s.waiting; registers = s.registers }
 
-  results : (dst : Option Loc) (n : ℕ) (a b : Frame) → SameFrame a b → SameFrame (resulted dst n a) (resulted (option_map (renamed_loc (within a)) dst) n b)
+  pub results : (dst : Option Loc) (n : ℕ) (a b : Frame) → SameFrame a b → SameFrame (resulted dst n a) (resulted (option_map (renamed_loc (within a)) dst) n b)
   results dst n a b s = record {
     function = s.function;
     block = s.block;
@@ -150,10 +150,10 @@ module _ (m other : ModuleParts) (r : Renames m other) where
     registers = assigned-by (within a) (r.loc_apart a.function) dst n a.registers b.registers s.registers;
   }
 
-  suspends : (dst : Option Loc) (a b : Frame) → SameFrame a b → SameFrame (suspended dst a) (suspended (option_map (renamed_loc (within a)) dst) b)
+  pub suspends : (dst : Option Loc) (a b : Frame) → SameFrame a b → SameFrame (suspended dst a) (suspended (option_map (renamed_loc (within a)) dst) b)
   suspends dst a b s = record { function = s.function; block = s.block; index = ap suc s.index; mark = s.mark; waiting = refl; registers = s.registers }
 
-  resumes : (n : ℕ) (a b : Frame) → SameFrame a b → SameFrame (resumed n a) (resumed n b)
+  pub resumes : (n : ℕ) (a b : Frame) → SameFrame a b → SameFrame (resumed n a) (resumed n b)
   resumes n a b s = record {
     function = s.function;
     block = s.block;

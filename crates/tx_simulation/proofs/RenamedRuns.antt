@@ -1,0 +1,189 @@
+-- Runs of a module under other numbers: the same answers, outputs and codes at the same turns, and the same accesses, so the same races.
+use Rattle.std.proofs.Common.{ℕ, zero, suc, ◌≡◌, ◌∙◌, ◌%◌, ◌^◌, Bool, true, false, ◌||◌, List, [], ◌∷◌, ◌++◌, map, find, length, Option, Some, None, slice_get, slice_set, refl, ap, sym as flip, subst}
+use Rattle.std.specs.Prelude.{nat_lt, unwrap_or}
+use Rattle.std.specs.Option.{option_map, option_map_or, is_some}
+use Rattle.std.proofs.lemmas.Option.{slice_get-map}
+use Rattle.ir_core.specs.declared.types.Loc.{Loc}
+use Rattle.ir_core.specs.declared.instruction.Inst.{Inst}
+use Rattle.ir_core.specs.declared.instruction.Inst.TheVariants as insts
+use Rattle.ir_core.specs.declared.instruction.Block.{Block}
+use Rattle.ir_core.specs.Module.{ModuleParts}
+use Rattle.ir_layout.specs.declared.spans.Span.{Span}
+use Rattle.ir_layout.specs.Memory.{LayoutParts, layout_of, stacks_start, heap_start, is_valid, thread_limit}
+use Rattle.ir_numbering.specs.Renaming.{Renaming, renamed_loc, renamed_option, renamed_inst, renamed_block}
+use Rattle.mem_image.specs.Accesses.{bytes}
+use Rattle.mem_image.specs.Bytes.{Memory}
+use Rattle.mem_image.specs.Touches.{Store, memory_with}
+use Rattle.mem_image.specs.Opening.{opening as opening_memory}
+use Rattle.inst_meaning.specs.declared.actions.Action.{Action}
+use Rattle.inst_meaning.specs.declared.actions.Action.TheVariants.{Assign, Reserve, Read, Write, Update, Pass, Jump, Call, Ask, Create, Join, Exit, Return, Fault}
+use Rattle.inst_meaning.specs.Accesses.{access_of}
+use Rattle.inst_meaning.specs.Action.{action_of, callees_of, destination}
+use Rattle.inst_meaning.specs.World.{WorldParts}
+use Rattle.process.specs.Frames.{Frames}
+use Rattle.process.specs.State.{ProcessParts, new_thread, stack_start}
+use Rattle.process.specs.declared.state.CallStack.{CallStack}
+use Rattle.process.specs.declared.state.Thread.{Thread}
+use Rattle.process.specs.declared.state.Thread.TheVariants.{Running, Exiting, Ended as HasEnded}
+use Rattle.process.specs.declared.state.Step.{Step}
+use Rattle.process.specs.declared.state.Step.TheVariants.{Went, Waits as Waited, Idle, Undefined, Ended}
+use Rattle.process.specs.Outcome.{Outcome, Goes, Waits, Faults, Ends, outcome_of}
+use Rattle.process.specs.Process.{applied, done}
+use Rattle.process_laws.proofs.Likeness as likeness
+use Rattle.process_laws.proofs.Likeness.{BothGo, BothWait, BothFault, BothEnd}
+use Rattle.src_meaning.specs.declared.state.Frame.{Frame}
+use Rattle.src_meaning.specs.State.{State, blocks_at, code_at, inst_at, main_of}
+use Rattle.src_meaning.specs.Step.{jumped, frames, opening, action_in, settled, fetched, exited, turned, unless_ended, step}
+use Rattle.src_meaning.specs.Runs.{Run, run_from, source}
+use Rattle.tx_simulation.proofs.RenamedMemory.{renamed_span, renamed_layout, valid-same, opening-same}
+use Rattle.tx_simulation.proofs.RenamedActions.{renamed_action, AgreeBy, acts-same}
+use Rattle.tx_simulation.proofs.Renames.{Renames, inside, layout-same, blocks-same, callees-same, main-same}
+use Rattle.tx_simulation.proofs.RenamedFrames.{within, SameFrame, alike, passes, results, suspends, resumes, entries, jumps}
+
+-- a memory whose globals have their other numbers
+abbrev pub renamed_memory : Renaming → Memory → Memory
+renamed_memory r mem = record mem { places = map (renamed_span r) mem.places }
+
+destination-same : (r : Renaming) (inst : Inst) → destination (renamed_inst r inst) ≡ option_map (renamed_loc r) (destination inst)
+destination-same r (insts.Call None ret callee args) = refl
+destination-same r (insts.Call (Some dst) ret callee args) = refl
+destination-same r inst = refl
+
+module _ (m other : ModuleParts) (r : Renames m other) where
+  -- the other module's frames, which jump by the first one's labels
+  abbrev frames_by : Frames Frame (Option Loc)
+  frames_by = record (frames other) { jump = λ label frame. jumped other frame (renamed_loc (within m other r frame) label) }
+
+  abbrev r_alike : likeness.Likeness Frame Frame (Unit {0})
+  r_alike = alike m other r
+
+  asks : (d : Option Loc) (a b : Frame) → SameFrame m other r a b → (action : Action)
+      → likeness.Asks r_alike (frames m) frames_by tt d (option_map (renamed_loc (within m other r a)) d) a b action
+  asks d a b s (Assign n) = λ k. results m other r d k a b s
+  asks d a b s (Reserve size) = λ k. results m other r d k a b s
+  asks d a b s (Read place atomic) = λ k. results m other r d k a b s
+  asks d a b s (Write place n atomic) = passes m other r a b s
+  asks d a b s (Update place update) = λ k. results m other r d k a b s
+  asks d a b s Pass = passes m other r a b s
+  asks d a b s (Jump label) = subst (λ (n : ℕ). likeness.AreJumps r_alike tt (jumped m a label) (jumped other b (renamed_loc (inside m other r n) label))) (flip s.function) (jumps m other r a b s label)
+  asks d a b s (Call n words) = record { entered = entries m other r n words; suspended = suspends m other r d a b s }
+  asks d a b s (Ask request) = λ k. results m other r d k a b s
+  asks d a b s (Create address n argument) = record { results = λ k. results m other r d k a b s; new = tt; good = tt; entered = entries m other r n (argument ∷ []) }
+  asks d a b s (Join thread) = λ k. results m other r d k a b s
+  asks d a b s (Exit code) = tt
+  asks d a b s (Return n) = record { mark = s.mark; resumed = λ x y is. resumes m other r n x y is }
+  asks d a b s (Fault cause) = tt
+
+  -- the other number of a label
+  relabelled : (p : ProcessParts Frame) (t : ℕ) (d : Option Loc) (stack : CallStack Frame) (action : Action)
+      → outcome_of (frames other) p t d stack (renamed_action (within m other r stack.frame) action) ≡ outcome_of frames_by p t d stack action
+  relabelled p t d stack (Assign n) = refl
+  relabelled p t d stack (Reserve size) = refl
+  relabelled p t d stack (Read place atomic) = refl
+  relabelled p t d stack (Write place n atomic) = refl
+  relabelled p t d stack (Update place update) = refl
+  relabelled p t d stack Pass = refl
+  relabelled p t d stack (Jump label) = refl
+  relabelled p t d stack (Call n words) = refl
+  relabelled p t d stack (Ask request) = refl
+  relabelled p t d stack (Create address n argument) = refl
+  relabelled p t d stack (Join thread) = refl
+  relabelled p t d stack (Exit code) = refl
+  relabelled p t d stack (Return n) = refl
+  relabelled p t d stack (Fault cause) = refl
+
+  -- the other numbers of globals
+  replaced : (q : Renaming) (mem : Memory) (threads : List (Thread Frame)) (world : WorldParts) (t : ℕ) (d : Option Loc) (stack : CallStack Frame) (action : Action)
+      → outcome_of frames_by (record { memory = renamed_memory q mem; threads = threads; world = world }) t d stack action
+      ≡ outcome_of frames_by (record { memory = mem; threads = threads; world = world }) t d stack action
+  replaced q mem threads world t d stack (Assign n) = refl
+  replaced q mem threads world t d stack (Reserve size) = refl
+  replaced q mem threads world t d stack (Read place atomic) = rw (valid-same q mem.places place.address (bytes place.size)) refl
+  replaced q mem threads world t d stack (Write place n atomic) = rw (valid-same q mem.places place.address (bytes place.size)) refl
+  replaced q mem threads world t d stack (Update place update) = rw (valid-same q mem.places place.address (bytes place.size)) refl
+  replaced q mem threads world t d stack Pass = refl
+  replaced q mem threads world t d stack (Jump label) = refl
+  replaced q mem threads world t d stack (Call n words) = refl
+  replaced q mem threads world t d stack (Ask request) = refl
+  replaced q mem threads world t d stack (Create address n argument) = rw (valid-same q mem.places address 8) refl
+  replaced q mem threads world t d stack (Join thread) = refl
+  replaced q mem threads world t d stack (Exit code) = refl
+  replaced q mem threads world t d stack (Return n) = refl
+  replaced q mem threads world t d stack (Fault cause) = refl
+
+  -- ---- states
+
+  pub record SameState (s u : State) : Type 0 where
+    pub memory : u.process.memory ≡ renamed_memory r.outer s.process.memory
+    pub world : u.process.world ≡ s.process.world
+    pub ended : u.ended ≡ s.ended
+    pub threads : likeness.AreThreads r_alike s.process.threads u.process.threads
+
+  stored-same : (q : Renaming) (store : Option Store) (mem : Memory) → memory_with store (renamed_memory q mem) ≡ renamed_memory q (memory_with store mem)
+  stored-same q None mem = refl
+  stored-same q (Some store) mem = by_area (nat_lt store.address stacks_start) refl (nat_lt store.address heap_start) refl
+    where
+      by_area : (b : Bool) → nat_lt store.address stacks_start ≡ b → (c : Bool) → nat_lt store.address heap_start ≡ c
+          → memory_with (Some store) (renamed_memory q mem) ≡ renamed_memory q (memory_with (Some store) mem)
+      by_area true e c f = rw e refl
+      by_area false e true f = rw (e, f) refl
+      by_area false e false f = rw (e, f) refl
+
+  -- ---- steps
+
+  pub record SameStep (x y : State × Step) : Type 0 where
+    pub answer : y.1 ≡ x.1
+    pub state : SameState x.0 y.0
+
+  settles : (s u : State) (t : ℕ) (a b : Thread Frame) (x y : Outcome Frame) → SameState s u → slice_get s.process.threads t ≡ Some a → slice_get u.process.threads t ≡ Some b
+      → likeness.AreOutcomes r_alike tt x y → SameStep (settled s (done s.process t x)) (settled u (done u.process t y))
+  settles s u t a b x y same at there (BothGo ex ey e f effects) = rw (e, f) (record {
+    answer = refl;
+    state = record {
+      memory = ap (λ (store : Option Store). memory_with store u.process.memory) effects.store ∙ ap (memory_with ex.store) same.memory ∙ stored-same r.outer ex.store s.process.memory;
+      world = effects.world;
+      ended = same.ended;
+      threads = likeness.effects-threads r_alike s.process.threads u.process.threads same.threads t a b at there tt tt ex ey effects;
+    };
+  })
+  settles s u t a b x y same at there (BothWait e f) = rw (e, f) (record { answer = refl; state = same })
+  settles s u t a b x y same at there (BothFault cause e f) = rw (e, f) (record { answer = refl; state = same })
+  settles s u t a b x y same at there (BothEnd code e f) = rw (e, f) (record {
+    answer = refl;
+    state = record { memory = same.memory; world = same.world; ended = refl; threads = same.threads };
+  })
+
+  -- the action of an instruction
+  action-same : (a b : Frame) → SameFrame m other r a b → (inst : Inst)
+      → action_in other b (renamed_inst (within m other r a) inst) ≡ renamed_action (within m other r a) (action_in m a inst)
+  action-same a b s inst =
+      ap (λ (l : LayoutParts). action_of l (callees_of other) b.registers (renamed_inst (within m other r a) inst)) (layout-same m other r)
+      ∙ acts-same (within m other r a) r.type_apart r.sym_apart (layout_of m) a.registers b.registers s.registers (callees_of m) (callees_of other) (callees-same m other r) inst
+
+  acts : (s u : State) (t : ℕ) (a b : CallStack Frame) → SameState s u → slice_get s.process.threads t ≡ Some (Running a) → slice_get u.process.threads t ≡ Some (Running b)
+      → likeness.IsStack r_alike tt a b → (inst : Inst)
+      → SameStep (fetched m s t a (Some inst)) (fetched other u t b (Some (renamed_inst (within m other r a.frame) inst)))
+  acts s u t a b same at there stack inst =
+      settles s u t (Running a) (Running b) _ _ same at there (subst (λ (y : Outcome Frame). likeness.AreOutcomes r_alike tt (outcome_of (frames m) s.process t (destination inst) a action) y) (flip outcome)
+      (likeness.outcomes-alike r_alike (frames m) frames_by tt (destination inst) dst a b stack.mark stack.callers s.process u.process.threads
+      (likeness.ends-of-threads r_alike s.process.threads u.process.threads same.threads) t action (asks (destination inst) a.frame b.frame stack.frame action)))
+    where
+      q : Renaming
+      q = within m other r a.frame
+
+      action : Action
+      action = action_in m a.frame inst
+
+      dst : Option Loc
+      dst = option_map (renamed_loc (within m other r a.frame)) (destination inst)
+
+      outcome : outcome_of (frames other) u.process t (destination (renamed_inst q inst)) b (action_in other b.frame (renamed_inst q inst))
+          ≡ outcome_of frames_by (likeness.over r_alike s.process u.process.threads) t dst b action
+      outcome =
+          ap (λ (d : Option Loc). outcome_of (frames other) u.process t d b (action_in other b.frame (renamed_inst q inst))) (destination-same q inst)
+          ∙ ap (λ (given : Action). outcome_of (frames other) u.process t dst b given)
+          (action-same a.frame b.frame stack.frame inst ∙ ap (λ (n : ℕ). renamed_action (inside m other r n) action) (flip stack.frame.function))
+          ∙ relabelled u.process t dst b action
+          ∙ ap (λ (world : WorldParts). outcome_of frames_by (record u.process { world = world }) t dst b action) same.world
+          ∙ ap (λ (mem : Memory). outcome_of frames_by (record { memory = mem; threads = u.process.threads; world = s.process.world }) t dst b action) same.memory
+          ∙ replaced r.outer s.process.memory u.process.threads s.process.world t dst b action
