@@ -187,3 +187,107 @@ module _ (m other : ModuleParts) (r : Renames m other) where
           ∙ ap (λ (world : WorldParts). outcome_of frames_by (record u.process { world = world }) t dst b action) same.world
           ∙ ap (λ (mem : Memory). outcome_of frames_by (record { memory = mem; threads = u.process.threads; world = s.process.world }) t dst b action) same.memory
           ∙ replaced r.outer s.process.memory u.process.threads s.process.world t dst b action
+
+  code-same : (q : Renaming) (blocks : List Block) (n : ℕ) → code_at (map (renamed_block q) blocks) n ≡ map (renamed_inst q) (code_at blocks n)
+  code-same q blocks n = ap (λ (o : Option Block). option_map_or (λ (block : Block). block.insts) o []) (slice_get-map (renamed_block q) blocks n) ∙ by_block (slice_get blocks n)
+    where
+      by_block : (o : Option Block) → option_map_or (λ (block : Block). block.insts) (option_map (renamed_block q) o) [] ≡ map (renamed_inst q) (option_map_or (λ (block : Block). block.insts) o [])
+      by_block None = refl
+      by_block (Some block) = refl
+
+  inst-same : (a b : Frame) → SameFrame m other r a b → inst_at other b ≡ option_map (renamed_inst (within m other r a)) (inst_at m a)
+  inst-same a b s =
+      ap (λ (n : ℕ). slice_get (code_at (blocks_at other.funcs n) b.block) b.index) s.function
+      ∙ ap (λ (blocks : List Block). slice_get (code_at blocks b.block) b.index) (blocks-same m other r a.function)
+      ∙ ap (λ (n : ℕ). slice_get (code_at (map (renamed_block (within m other r a)) (blocks_at m.funcs a.function)) n) b.index) s.block
+      ∙ ap (λ (n : ℕ). slice_get (code_at (map (renamed_block (within m other r a)) (blocks_at m.funcs a.function)) a.block) n) s.index
+      ∙ ap (λ (code : List Inst). slice_get code a.index) (code-same (within m other r a) (blocks_at m.funcs a.function) a.block)
+      ∙ slice_get-map (renamed_inst (within m other r a)) (code_at (blocks_at m.funcs a.function) a.block) a.index
+
+  fetches : (s u : State) (t : ℕ) (a b : CallStack Frame) → SameState s u → slice_get s.process.threads t ≡ Some (Running a) → slice_get u.process.threads t ≡ Some (Running b)
+      → likeness.IsStack r_alike tt a b → (o : Option Inst)
+      → SameStep (fetched m s t a o) (fetched other u t b (option_map (renamed_inst (within m other r a.frame)) o))
+  fetches s u t a b same at there stack None = record { answer = refl; state = same }
+  fetches s u t a b same at there stack (Some inst) = acts s u t a b same at there stack inst
+
+  exits : (s u : State) (t n : ℕ) → SameState s u → slice_get s.process.threads t ≡ Some (Exiting n) → slice_get u.process.threads t ≡ Some (Exiting n)
+      → SameStep (exited s t n) (exited u t n)
+  exits s u zero n same at there = record { answer = refl; state = record { memory = same.memory; world = same.world; ended = refl; threads = same.threads } }
+  exits s u (suc t) n same at there = record {
+    answer = refl;
+    state = record {
+      memory = same.memory;
+      world = same.world;
+      ended = same.ended;
+      threads = likeness.both-moved r_alike s.process.threads u.process.threads same.threads (suc t) (Exiting n) HasEnded (Exiting n) HasEnded at there
+          (record { index = tt; good = tt; stands = tt });
+    };
+  }
+
+  by-stands : (s u : State) (t : ℕ) (x y : Thread Frame) → SameState s u → slice_get s.process.threads t ≡ Some x → slice_get u.process.threads t ≡ Some y
+      → likeness.IsThreadOn r_alike tt x y → SameStep (turned m s t (Some x)) (turned other u t (Some y))
+  by-stands s u t (Running a) (Running b) same at there is =
+      subst (λ (o : Option Inst). SameStep (fetched m s t a (inst_at m a.frame)) (fetched other u t b o)) (flip (inst-same a.frame b.frame is.frame))
+      (fetches s u t a b same at there is (inst_at m a.frame))
+  by-stands s u t (Running a) (Exiting k) same at there is = absurd is
+  by-stands s u t (Running a) HasEnded same at there is = absurd is
+  by-stands s u t (Exiting n) (Running b) same at there is = absurd is
+  by-stands s u t (Exiting n) (Exiting k) same at there is =
+      subst (λ (word : ℕ). SameStep (exited s t n) (exited u t word)) (flip is) (exits s u t n same at (there ∙ ap (λ (word : ℕ). Some (Exiting word)) is))
+  by-stands s u t (Exiting n) HasEnded same at there is = absurd is
+  by-stands s u t HasEnded (Running b) same at there is = absurd is
+  by-stands s u t HasEnded (Exiting k) same at there is = absurd is
+  by-stands s u t HasEnded HasEnded same at there is = record { answer = refl; state = same }
+
+  by-thread : (s u : State) (t : ℕ) (x y : Option (Thread Frame)) → SameState s u → slice_get s.process.threads t ≡ x → slice_get u.process.threads t ≡ y
+      → likeness.AreThreadsAt r_alike x y → SameStep (turned m s t x) (turned other u t y)
+  by-thread s u t None None same at there is = record { answer = refl; state = same }
+  by-thread s u t None (Some y) same at there is = absurd is
+  by-thread s u t (Some x) None same at there is = absurd is
+  by-thread s u t (Some x) (Some y) same at there is = by-stands s u t x y same at there is.stands
+
+  pub steps : (s u : State) (t : ℕ) → SameState s u → SameStep (step m s t) (step other u t)
+  steps s u t same =
+      subst (λ (b : Bool). SameStep (step m s t) (unless_ended b u (turned other u t (slice_get u.process.threads t)))) (flip same.ended)
+      (by_end s.ended (by-thread s u t (slice_get s.process.threads t) (slice_get u.process.threads t) same refl refl (same.threads.each t)))
+    where
+      by_end : (b : Bool) → SameStep (turned m s t (slice_get s.process.threads t)) (turned other u t (slice_get u.process.threads t))
+          → SameStep (unless_ended b s (turned m s t (slice_get s.process.threads t))) (unless_ended b u (turned other u t (slice_get u.process.threads t)))
+      by_end true next = record { answer = refl; state = same }
+      by_end false next = next
+
+  -- ---- runs
+
+  pub record SameRun (x y : Run) : Type 0 where
+    pub answers : y.answers ≡ x.answers
+    pub state : SameState x.state y.state
+
+  pub runs : (s u : State) (turns : List ℕ) → SameState s u → SameRun (run_from m s turns) (run_from other u turns)
+  runs s u [] same = record { answers = refl; state = same }
+  runs s u (t ∷ turns) same =
+      let first = steps s u t same in
+      let rest = runs (step m s t).0 (step other u t).0 turns first.state in
+      record {
+        answers = ap (λ (answer : Step). answer ∷ (run_from other (step other u t).0 turns).answers) first.answer ∙ ap (λ (answers : List Step). (step m s t).1 ∷ answers) rest.answers;
+        state = rest.state;
+      }
+
+  pub opens : (arguments : List ℕ) → SameState (opening m arguments) (opening other arguments)
+  opens arguments = record {
+    memory =
+        ap (λ (l : LayoutParts). opening_memory l other.globals) (layout-same m other r)
+        ∙ ap (opening_memory (renamed_layout r.outer r.type_apart r.sym_apart (layout_of m))) r.globals
+        ∙ opening-same r.outer r.type_apart r.sym_apart (layout_of m) m.globals;
+    world = refl;
+    ended = refl;
+    threads = subst (λ (n : ℕ). likeness.AreThreads r_alike (new_thread (frames m) 0 (main_of m) [] ∷ []) (new_thread (frames other) 0 n [] ∷ [])) (flip (main-same m other r))
+        (record { count = refl; each = each });
+  }
+    where
+      each : (t : ℕ) → likeness.AreThreadsAt r_alike (slice_get (new_thread (frames m) 0 (main_of m) [] ∷ []) t) (slice_get (new_thread (frames other) 0 (main_of m) [] ∷ []) t)
+      each zero = record { index = tt; good = tt; stands = record { mark = refl; frame = entries m other r (main_of m) [] (stack_start 0); callers = tt } }
+      each (suc t) = tt
+
+  -- the source runs on the same turns are the same
+  pub sources : (arguments turns : List ℕ) → SameRun (source m arguments turns) (source other arguments turns)
+  sources arguments turns = runs (opening m arguments) (opening other arguments) turns (opens arguments)
