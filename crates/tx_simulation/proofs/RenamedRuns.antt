@@ -34,6 +34,7 @@ use Rattle.process_laws.proofs.Likeness.{BothGo, BothWait, BothFault, BothEnd}
 use Rattle.src_meaning.specs.declared.state.Frame.{Frame}
 use Rattle.src_meaning.specs.State.{State, blocks_at, code_at, inst_at, main_of}
 use Rattle.src_meaning.specs.Step.{jumped, frames, opening, action_in, settled, fetched, exited, turned, unless_ended, step}
+use Rattle.src_meaning.specs.Races.{access_in, access_by, unless_over, next_access, is_race, pairs_of, race_of, IsGood}
 use Rattle.src_meaning.specs.Runs.{Run, run_from, source}
 use Rattle.tx_simulation.proofs.RenamedMemory.{renamed_span, renamed_layout, valid-same, opening-same}
 use Rattle.tx_simulation.proofs.RenamedActions.{renamed_action, AgreeBy, acts-same}
@@ -291,3 +292,71 @@ module _ (m other : ModuleParts) (r : Renames m other) where
   -- the source runs on the same turns are the same
   pub sources : (arguments turns : List ℕ) → SameRun (source m arguments turns) (source other arguments turns)
   sources arguments turns = runs (opening m arguments) (opening other arguments) turns (opens arguments)
+
+  pub outputs : (arguments turns : List ℕ) → (source other arguments turns).state.process.world.outputs ≡ (source m arguments turns).state.process.world.outputs
+  outputs arguments turns = ap (λ (world : WorldParts). world.outputs) (sources arguments turns).state.world
+
+  -- ---- races
+
+  access-same : (q : Renaming) (made : ℕ) (action : Action) → access_of made (renamed_action q action) ≡ access_of made action
+  access-same q made (Assign n) = refl
+  access-same q made (Reserve size) = refl
+  access-same q made (Read place atomic) = refl
+  access-same q made (Write place n atomic) = refl
+  access-same q made (Update place update) = refl
+  access-same q made Pass = refl
+  access-same q made (Jump label) = refl
+  access-same q made (Call n words) = refl
+  access-same q made (Ask request) = refl
+  access-same q made (Create address n argument) = refl
+  access-same q made (Join thread) = refl
+  access-same q made (Exit code) = refl
+  access-same q made (Return n) = refl
+  access-same q made (Fault cause) = refl
+
+  accesses : (made : ℕ) (a b : Frame) → SameFrame m other r a b → access_in other made b (inst_at other b) ≡ access_in m made a (inst_at m a)
+  accesses made a b s = ap (access_in other made b) (inst-same a b s) ∙ by_inst (inst_at m a)
+    where
+      by_inst : (o : Option Inst) → access_in other made b (option_map (renamed_inst (within m other r a)) o) ≡ access_in m made a o
+      by_inst None = refl
+      by_inst (Some inst) = ap (access_of made) (action-same a b s inst) ∙ access-same (within m other r a) made (action_in m a inst)
+
+  thread-accesses : (made : ℕ) (x y : Thread Frame) → likeness.IsThreadOn r_alike tt x y → access_by other made (Some y) ≡ access_by m made (Some x)
+  thread-accesses made (Running a) (Running b) is = accesses made a.frame b.frame is.frame
+  thread-accesses made (Running a) (Exiting k) is = absurd is
+  thread-accesses made (Running a) HasEnded is = absurd is
+  thread-accesses made (Exiting n) (Running b) is = absurd is
+  thread-accesses made (Exiting n) (Exiting k) is = refl
+  thread-accesses made (Exiting n) HasEnded is = absurd is
+  thread-accesses made HasEnded (Running b) is = absurd is
+  thread-accesses made HasEnded (Exiting k) is = absurd is
+  thread-accesses made HasEnded HasEnded is = refl
+
+  next-same : (s u : State) (t : ℕ) → SameState s u → next_access other u t ≡ next_access m s t
+  next-same s u t same =
+      ap (λ (b : Bool). unless_over b (access_by other (length u.process.threads) (slice_get u.process.threads t))) same.ended
+      ∙ ap (λ (made : ℕ). unless_over s.ended (access_by other made (slice_get u.process.threads t))) same.threads.count
+      ∙ ap (unless_over s.ended) (by_thread (slice_get s.process.threads t) (slice_get u.process.threads t) (same.threads.each t))
+    where
+      by_thread : (x y : Option (Thread Frame)) → likeness.AreThreadsAt r_alike x y
+          → access_by other (length s.process.threads) y ≡ access_by m (length s.process.threads) x
+      by_thread None None is = refl
+      by_thread None (Some y) is = absurd is
+      by_thread (Some x) None is = absurd is
+      by_thread (Some x) (Some y) is = thread-accesses (length s.process.threads) x y is.stands
+
+  find-same : (p q : ℕ × ℕ → Bool) → ((x : ℕ × ℕ) → q x ≡ p x) → (xs : List (ℕ × ℕ)) → find q xs ≡ find p xs
+  find-same p q same [] = refl
+  find-same p q same (x ∷ xs) = rw (same x, find-same p q same xs) refl
+
+  pub races : (s u : State) → SameState s u → race_of other u ≡ race_of m s
+  races s u same =
+      ap (λ (n : ℕ). find (is_race other u) (pairs_of n)) same.threads.count
+      ∙ find-same (is_race m s) (is_race other u) (λ pair. rw (next-same s u pair.0 same, next-same s u pair.1 same) refl) (pairs_of (length s.process.threads))
+
+  -- a module that is free of undefined steps and races stays so
+  pub goods : (arguments : List ℕ) → IsGood m arguments → IsGood other arguments
+  goods arguments good = record {
+    defined = λ turns n cause e. good.defined turns n cause (ap (λ (answers : List Step). slice_get answers n) (flip (sources arguments turns).answers) ∙ e);
+    race_free = λ turns. races (source m arguments turns).state (source other arguments turns).state (sources arguments turns).state ∙ good.race_free turns;
+  }
