@@ -29,3 +29,4 @@ pub mod RenamedActions
 pub mod Renames
 pub mod RenamedFrames
 pub mod RenamedRuns
+pub mod RenamedAgain
