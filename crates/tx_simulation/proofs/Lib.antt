@@ -30,3 +30,4 @@ pub mod Renames
 pub mod RenamedFrames
 pub mod RenamedRuns
 pub mod RenamedAgain
+pub mod SameModules

@@ -227,3 +227,36 @@ module _ (r q : Renaming) where
       cases-again cases (back ((places_of_ty ty ++ places_of_val on) ++ Local default ∷ []) (places_of_cases cases) all)) refl
   inst-again (insts.Ret ty val) all = rw (ty-again ty (front (places_of_ty ty) (places_of_option places_of_val val) all), maybe-again places_of_val (renamed_val r) (renamed_val q) val-again val (back (places_of_ty ty) (places_of_option places_of_val val) all)) refl
   inst-again insts.Unreachable all = refl
+
+  -- ---- functions and modules
+
+  block-again : (block : Block) → AllAgree (places_of_block block) → renamed_block r block ≡ renamed_block q block
+  block-again block all =
+      let code = each places_of_inst (renamed_inst r) (renamed_inst q) inst-again block.insts all.1 in
+      rw (loc-again block.label all.0, code) refl
+
+  param-again : (param : Ty × Loc) → AllAgree (places_of_ty param.0 ++ Local param.1 ∷ []) → renamed_param r param ≡ renamed_param q param
+  param-again param all =
+      rw (ty-again param.0 (front (places_of_ty param.0) (Local param.1 ∷ []) all), loc-again param.1 (back (places_of_ty param.0) (Local param.1 ∷ []) all).0) refl
+
+  pub func-again : (f : FuncParts) → AllAgree (mentions_of_func f) → renamed_func r f ≡ renamed_func q f
+  func-again f all =
+      let params = flat_map (λ (param : Ty × Loc). places_of_ty param.0 ++ Local param.1 ∷ []) f.params in
+      let head = front ((places_of_ty f.ret ++ Global f.sym ∷ []) ++ params) (flat_map places_of_block f.blocks) all in
+      let two = front (places_of_ty f.ret ++ Global f.sym ∷ []) params head in
+      let blocks = each places_of_block (renamed_block r) (renamed_block q) block-again f.blocks (back ((places_of_ty f.ret ++ Global f.sym ∷ []) ++ params) (flat_map places_of_block f.blocks) all) in
+      let given = each (λ (param : Ty × Loc). places_of_ty param.0 ++ Local param.1 ∷ []) (renamed_param r) (renamed_param q) param-again f.params (back (places_of_ty f.ret ++ Global f.sym ∷ []) params head) in
+      rw (sym-again f.sym (back (places_of_ty f.ret) (Global f.sym ∷ []) two).0, ty-again f.ret (front (places_of_ty f.ret) (Global f.sym ∷ []) two), given, blocks) refl
+
+  named-again : (named : TypeId × Ty) → AllAgree (places_of_named named) → renamed_named r named ≡ renamed_named q named
+  named-again named all = rw (id-again named.0 all.0, ty-again named.1 all.1) refl
+
+  pub types-again : (types : List (TypeId × Ty)) → AllAgree (flat_map places_of_named types) → map (renamed_named r) types ≡ map (renamed_named q) types
+  types-again = each places_of_named (renamed_named r) (renamed_named q) named-again
+
+  global-again : (global : GlobalVar) → AllAgree (places_of_global global) → renamed_global r global ≡ renamed_global q global
+  global-again global all =
+      rw (sym-again global.sym all.0, ty-again global.ty (front (places_of_ty global.ty) (places_of_init global.init) all.1), init-again global.init (back (places_of_ty global.ty) (places_of_init global.init) all.1)) refl
+
+  pub globals-again : (globals : List GlobalVar) → AllAgree (flat_map places_of_global globals) → map (renamed_global r) globals ≡ map (renamed_global q) globals
+  globals-again = each places_of_global (renamed_global r) (renamed_global q) global-again
