@@ -19,6 +19,8 @@ use Rattle.src_meaning.specs.Runs.{source}
 use Rattle.tx_simulation.proofs.RenamedTypes.{IsApart}
 use Rattle.tx_simulation.proofs.RenamedAgain.{AllAt, AgreeAt, AllAgree, func-again, types-again, globals-again}
 use Rattle.tx_simulation.proofs.Renames.{Renames, IsRenamedAt}
+use Rattle.tx_simulation.proofs.RenamedRuns.{sources, outputs, goods}
+use Rattle.tx_simulation.proofs.Blocks.{same-place}
 
 -- ---- numbers past a table
 
@@ -81,3 +83,101 @@ module _ (from to : List (List ℕ)) (number : ℕ → ℕ) (keeps : Keeps from 
       by (inr past) =
           let beyond : length to ≤ length to + n = omega arith in
           ap (slice_get to) (on-past n past) ∙ slice_get_past to (length to + n) beyond ∙ flip (slice_get_past from n past)
+
+-- ---- modules whose names are in tables
+
+-- a name at a place has a number in its table
+abbrev pub IsWithin : ModuleParts → List (List ℕ) → Place → Type 0
+IsWithin m names (Local at) = at.0 < length names
+IsWithin m names (Struct id) = id.0 < length m.type_names
+IsWithin m names (Global name) = name.0 < length m.syms
+
+pub record AreNumbered (m : ModuleParts) : Type 0 where
+  pub type_names : AreDistinct m.type_names
+  pub syms : AreDistinct m.syms
+  pub names : (n : ℕ) (f : FuncParts) → slice_get m.funcs n ≡ Some f → AreDistinct f.names
+  pub types : AllAt (IsWithin m []) (flat_map places_of_named m.types)
+  pub globals : AllAt (IsWithin m []) (flat_map places_of_global m.globals)
+  pub funcs : (n : ℕ) (f : FuncParts) → slice_get m.funcs n ≡ Some f → AllAt (IsWithin m f.names) (mentions_of_func f)
+
+all-so : (P Q : Place → Type 0) → ((place : Place) → P place → Q place) → (places : List Place) → AllAt P places → AllAt Q places
+all-so P Q so [] all = tt
+all-so P Q so (place ∷ places) all = (so place all.0, all-so P Q so places all.1)
+
+module _ (m other : ModuleParts) (same : IsSameModule m other) (numbered : AreNumbered m) where
+  abbrev pub outer_on : Renaming
+  outer_on = record {
+    loc = same.outer.loc;
+    type_id = carried_on m.type_names other.type_names same.outer.type_id;
+    sym = carried_on m.syms other.syms same.outer.sym;
+  }
+
+  -- inside a function, and outside all
+  agree-in : (names others : List (List ℕ)) (loc : ℕ → ℕ) (place : Place) → Keeps names others loc → IsWithin m names place
+      → AgreeAt (record same.outer { loc = loc }) (record outer_on { loc = carried_on names others loc }) place
+  agree-in names others loc (Local at) keeps within = flip (on-within names others loc keeps at.0 within)
+  agree-in names others loc (Struct id) keeps within = flip (on-within m.type_names other.type_names same.outer.type_id same.type_names id.0 within)
+  agree-in names others loc (Global name) keeps within = flip (on-within m.syms other.syms same.outer.sym same.syms name.0 within)
+
+  agree-out : (place : Place) → IsWithin m [] place → AgreeAt same.outer outer_on place
+  agree-out (Local at) within = refl
+  agree-out (Struct id) within = flip (on-within m.type_names other.type_names same.outer.type_id same.type_names id.0 within)
+  agree-out (Global name) within = flip (on-within m.syms other.syms same.outer.sym same.syms name.0 within)
+
+  -- the numbering of a function's registers and labels
+  record InFunc (n : ℕ) : Type 0 where
+    loc : ℕ → ℕ
+    apart : IsApart loc
+    is : IsRenamedAt (record outer_on { loc = loc }) (slice_get m.funcs n) (slice_get other.funcs n)
+
+  in-func : (n : ℕ) → InFunc n
+  in-func n = by (slice_get m.funcs n) (slice_get other.funcs n) refl refl
+    where
+      by : (o p : Option FuncParts) → slice_get m.funcs n ≡ o → slice_get other.funcs n ≡ p → InFunc n
+      by None None e g = record {
+        loc = λ k. k;
+        apart = λ a b f. f;
+        is = subst (λ (o : Option FuncParts). IsRenamedAt (record outer_on { loc = λ k. k }) o (slice_get other.funcs n)) (flip e) (subst (λ (p : Option FuncParts). IsRenamedAt (record outer_on { loc = λ k. k }) None p) (flip g) tt);
+      }
+      by None (Some g) e h =
+          let found = same-place other.funcs m.funcs n g (flip same.count) h in absurd (let clash : Some found.0 ≡ None = flip found.1 ∙ e in cc)
+      by (Some f) None e h =
+          let found = same-place m.funcs other.funcs n f same.count e in absurd (let clash : Some found.0 ≡ None = flip found.1 ∙ h in cc)
+      by (Some f) (Some g) e h =
+          let own = same.funcs n f g e h in
+          let number : ℕ → ℕ = carried_on f.names g.names own.loc in
+          record {
+            loc = number;
+            apart = on-apart f.names g.names own.loc own.names (numbered.names n f e);
+            is = subst (λ (o : Option FuncParts). IsRenamedAt (record outer_on { loc = number }) o (slice_get other.funcs n)) (flip e)
+                (subst (λ (p : Option FuncParts). IsRenamedAt (record outer_on { loc = number }) (Some f) p) (flip h)
+                (own.is ∙ ap (λ (func : FuncParts). record func { names = g.names })
+                (func-again (record same.outer { loc = own.loc }) (record outer_on { loc = number }) f
+                (all-so (IsWithin m f.names) (AgreeAt (record same.outer { loc = own.loc }) (record outer_on { loc = number }))
+                (λ place within. agree-in f.names g.names own.loc place own.names within) (mentions_of_func f) (numbered.funcs n f e)))));
+          }
+
+  pub renames : Renames m other
+  renames = record {
+    outer = outer_on;
+    loc = λ n. (in-func n).loc;
+    type_apart = on-apart m.type_names other.type_names same.outer.type_id same.type_names numbered.type_names;
+    sym_apart = on-apart m.syms other.syms same.outer.sym same.syms numbered.syms;
+    loc_apart = λ n. (in-func n).apart;
+    types = same.types ∙ types-again same.outer outer_on m.types (all-so (IsWithin m []) (AgreeAt same.outer outer_on) agree-out (flat_map places_of_named m.types) numbered.types);
+    globals = same.globals ∙ globals-again same.outer outer_on m.globals (all-so (IsWithin m []) (AgreeAt same.outer outer_on) agree-out (flat_map places_of_global m.globals) numbered.globals);
+    count = same.count;
+    funcs = λ n. (in-func n).is;
+    names = on-names m.syms other.syms same.outer.sym same.syms;
+  }
+
+  -- ---- what the source does
+
+  pub same-answers : (arguments turns : List ℕ) → (source other arguments turns).answers ≡ (source m arguments turns).answers
+  same-answers arguments turns = (sources m other renames arguments turns).answers
+
+  pub same-outputs : (arguments turns : List ℕ) → (source other arguments turns).state.process.world.outputs ≡ (source m arguments turns).state.process.world.outputs
+  same-outputs arguments turns = outputs m other renames arguments turns
+
+  pub same-good : (arguments : List ℕ) → IsGood m arguments → IsGood other arguments
+  same-good arguments good = goods m other renames arguments good
