@@ -1,29 +1,22 @@
 -- What instructions ask for under other numbers of a module's names: the same, but that a branch goes to the other number of its label.
-use Rattle.std.proofs.Common.{ℕ, zero, suc, ◌≡◌, ◌∙◌, ◌+◌, ◌<◌, ◌%◌, ◌^◌, ◌==◌, Bool, true, false, not, cond, ◌&&◌, List, [], ◌∷◌, ◌++◌, map, find, length, get_or, Option, Some, None, Result, Ok, Err, slice_get, refl, ap, sym as flip, subst, arith, rules}
-use Rattle.std.specs.Prelude.{nat_eq, nat_lt, unwrap_or, if◌then◌else◌}
-use Rattle.std.specs.List.{slice_index_or, range_with_len, position, position_or_len}
-use Rattle.std.specs.Map.{lookup}
-use Rattle.std.specs.Option.{option_map, option_map_or, option_and_then}
-use Rattle.std.proofs.lemmas.Option.{slice_get-map, unwrap_or-slice_get}
+use Rattle.std.proofs.Common.{ℕ, ◌≡◌, ◌∙◌, ◌%◌, ◌^◌, ◌==◌, Bool, true, false, List, [], ◌∷◌, Option, Some, None, Result, Ok, Err, refl, ap, sym as flip, rules}
+use Rattle.std.specs.Prelude.{nat_eq, if◌then◌else◌}
+use Rattle.std.specs.List.{slice_index_or}
+use Rattle.std.specs.Option.{option_map, option_and_then}
 use Rattle.ir_core.specs.declared.types.Ty.{Ty, map-Ty}
 use Rattle.ir_core.specs.declared.types.Ty.TheOpen.{Ty-F}
 use Rattle.ir_core.specs.declared.types.Ty.TheViews.{out-Ty}
 use Rattle.ir_core.specs.declared.types.Loc.{Loc}
-use Rattle.ir_core.specs.declared.types.Sym.{Sym}
 use Rattle.ir_core.specs.declared.types.Width.{Width}
 use Rattle.ir_core.specs.declared.types.Width.TheVariants.{W1, W64}
 use Rattle.ir_core.specs.declared.values.Val.{Val}
 use Rattle.ir_core.specs.declared.values.Val.TheVariants as values
 use Rattle.ir_core.specs.declared.instruction.Inst.{Inst}
 use Rattle.ir_core.specs.declared.instruction.Inst.TheVariants as insts
-use Rattle.ir_core.specs.Module.{ModuleParts, FuncParts}
-use Rattle.ir_layout.specs.Memory.{LayoutParts, layout_of, globals_start}
+use Rattle.ir_layout.specs.Memory.{LayoutParts}
 use Rattle.ir_calls.specs.declared.externals.External.{External}
 use Rattle.ir_calls.specs.declared.externals.External.TheVariants.{PthreadCreate, PthreadJoin, MutexLock, MutexUnlock, Putchar, Exit as ExitProgram, Malloc, Free as FreeMemory, HaftOut, HaftArg}
-use Rattle.ir_calls.specs.Externals.{external_of}
-use Rattle.ir_calls.specs.Calls.{external_named}
-use Rattle.ir_numbering.specs.Renaming.{Renaming, renamed_loc, renamed_sym, renamed_ty, renamed_val, renamed_gep, renamed_args, renamed_cases, renamed_index, renamed_option, renamed_inst, renamed_func, renamed_global}
-use Rattle.ir_numbering.specs.Numbers.{renamed_named}
+use Rattle.ir_numbering.specs.Renaming.{Renaming, renamed_loc, renamed_ty, renamed_val, renamed_args, renamed_cases, renamed_index, renamed_inst}
 use Rattle.op_table.specs.declared.OpCause.{OpCause}
 use Rattle.op_table.specs.Operators.{bits, compares, converted}
 use Rattle.inst_meaning.specs.declared.actions.Callee.{Callee}
@@ -31,15 +24,14 @@ use Rattle.inst_meaning.specs.declared.actions.Callee.TheVariants.{Defined, Outs
 use Rattle.inst_meaning.specs.declared.actions.Place.{Place}
 use Rattle.inst_meaning.specs.declared.actions.Update.{Update as Updates}
 use Rattle.inst_meaning.specs.declared.actions.Update.TheVariants.{Combine, Exchange}
-use Rattle.inst_meaning.specs.declared.actions.Cause.{Cause}
 use Rattle.inst_meaning.specs.declared.actions.Cause.TheVariants.{Unreachable}
 use Rattle.inst_meaning.specs.declared.actions.Action.{Action}
 use Rattle.inst_meaning.specs.declared.actions.Action.TheVariants.{Assign, Reserve, Read, Write, Update, Pass, Jump, Call, Ask, Create, Join, Exit, Return, Fault}
-use Rattle.inst_meaning.specs.Action.{truth, is_cast, place_at, numbered_function, callee_with, callee_of, callees_of, on_word, on_width, operated, operation, comparison, selection, conversion, element, inner_pointer, loading, storing, combining, exchanging, extraction, branching, case_of, switching, returning, asked, function_of, named_function, creating, asking, outside, entering, calling, action_of, destination}
-use Rattle.inst_meaning.specs.Operands.{width_step, width_of, in_bytes, memory_width, word_of, word_at, typed_word, words_with, argument_words, index_with, index_words}
+use Rattle.inst_meaning.specs.Action.{truth, is_cast, place_at, on_word, on_width, operated, element, inner_pointer, case_of, returning, asked, function_of, named_function, creating, asking, outside, entering, calling, action_of}
+use Rattle.inst_meaning.specs.Operands.{width_step, width_of, in_bytes, memory_width, word_of, word_at, typed_word, argument_words, index_words}
 use Rattle.inst_meaning.specs.Registers.{get}
-use Rattle.tx_simulation.proofs.RenamedTypes.{IsApart, same-test, numbered_layer, out-renamed, offset-same}
-use Rattle.tx_simulation.proofs.RenamedMemory.{renamed_layout, address-same, inner-address-same, size-in-same, spans-same}
+use Rattle.tx_simulation.proofs.RenamedTypes.{IsApart, numbered_layer, out-renamed, offset-same}
+use Rattle.tx_simulation.proofs.RenamedMemory.{renamed_layout, address-same, inner-address-same, size-in-same}
 
 -- ---- widths
 

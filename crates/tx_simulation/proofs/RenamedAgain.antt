@@ -1,7 +1,7 @@
 -- Two renamings that agree at all places of a tree make the same of it.
 use Rattle.std.proofs.Common.{ℕ, ◌≡◌, ◌∙◌, List, [], ◌∷◌, ◌++◌, map, Option, Some, None, refl, ap, subst, sym as flip}
 use Rattle.std.specs.List.{flat_map}
-use Rattle.ir_core.specs.declared.types.Ty.{Ty, map-Ty, roll-Ty}
+use Rattle.ir_core.specs.declared.types.Ty.{Ty, map-Ty}
 use Rattle.ir_core.specs.declared.types.Ty.TheFolds.{fold-roll-Ty, ind-Ty}
 use Rattle.ir_core.specs.declared.types.Ty.TheOpen.{Ty-F}
 use Rattle.ir_core.specs.declared.types.Ty.TheVariants as types
@@ -13,7 +13,7 @@ use Rattle.ir_core.specs.declared.values.ConstGep.{ConstGep}
 use Rattle.ir_core.specs.declared.values.Val.{Val}
 use Rattle.ir_core.specs.declared.values.Val.TheVariants as values
 use Rattle.ir_core.specs.declared.values.GlobalVar.{GlobalVar}
-use Rattle.ir_core.specs.declared.values.Init.{Init, map-Init, roll-Init}
+use Rattle.ir_core.specs.declared.values.Init.{Init, map-Init}
 use Rattle.ir_core.specs.declared.values.Init.TheFolds.{fold-roll-Init, ind-Init}
 use Rattle.ir_core.specs.declared.values.Init.TheOpen.{Init-F}
 use Rattle.ir_core.specs.declared.values.Init.TheVariants as inits
@@ -186,8 +186,13 @@ module _ (r q : Renaming) where
   inst-again (insts.Select dst cond ty a b) all =
       let three = front ((places_of_val cond ++ places_of_ty ty) ++ places_of_val a) (places_of_val b) all.1 in
       let two = front (places_of_val cond ++ places_of_ty ty) (places_of_val a) three in
-      rw (loc-again dst all.0, val-again cond (front (places_of_val cond) (places_of_ty ty) two), ty-again ty (back (places_of_val cond) (places_of_ty ty) two),
-      val-again a (back (places_of_val cond ++ places_of_ty ty) (places_of_val a) three), val-again b (back ((places_of_val cond ++ places_of_ty ty) ++ places_of_val a) (places_of_val b) all.1)) refl
+      rw (
+        loc-again dst all.0,
+        val-again cond (front (places_of_val cond) (places_of_ty ty) two),
+        ty-again ty (back (places_of_val cond) (places_of_ty ty) two),
+        val-again a (back (places_of_val cond ++ places_of_ty ty) (places_of_val a) three),
+        val-again b (back ((places_of_val cond ++ places_of_ty ty) ++ places_of_val a) (places_of_val b) all.1),
+      ) refl
   inst-again (insts.Cast dst op from a to) all =
       let two = front (places_of_ty from ++ places_of_val a) (places_of_ty to) all.1 in
       rw (loc-again dst all.0, ty-again from (front (places_of_ty from) (places_of_val a) two), val-again a (back (places_of_ty from) (places_of_val a) two), ty-again to (back (places_of_ty from ++ places_of_val a) (places_of_ty to) all.1)) refl
@@ -205,16 +210,25 @@ module _ (r q : Renaming) where
   inst-again (insts.CmpXchg dst ptr ty old new) all =
       let three = front ((places_of_val ptr ++ places_of_ty ty) ++ places_of_val old) (places_of_val new) all.1 in
       let two = front (places_of_val ptr ++ places_of_ty ty) (places_of_val old) three in
-      rw (loc-again dst all.0, val-again ptr (front (places_of_val ptr) (places_of_ty ty) two), ty-again ty (back (places_of_val ptr) (places_of_ty ty) two),
-      val-again old (back (places_of_val ptr ++ places_of_ty ty) (places_of_val old) three), val-again new (back ((places_of_val ptr ++ places_of_ty ty) ++ places_of_val old) (places_of_val new) all.1)) refl
+      rw (
+        loc-again dst all.0,
+        val-again ptr (front (places_of_val ptr) (places_of_ty ty) two),
+        ty-again ty (back (places_of_val ptr) (places_of_ty ty) two),
+        val-again old (back (places_of_val ptr ++ places_of_ty ty) (places_of_val old) three),
+        val-again new (back ((places_of_val ptr ++ places_of_ty ty) ++ places_of_val old) (places_of_val new) all.1),
+      ) refl
   inst-again insts.Fence all = refl
   inst-again (insts.Extract dst elem pair index) all = rw (loc-again dst all.0, ty-again elem (front (places_of_ty elem) (Local pair ∷ []) all.1), loc-again pair (back (places_of_ty elem) (Local pair ∷ []) all.1).0) refl
   inst-again (insts.Call dst ret callee args) all =
       let head = places_of_option (λ (at : Loc). Local at ∷ []) dst in
       let three = front ((head ++ places_of_ty ret) ++ Global callee ∷ []) (places_of_args args) all in
       let two = front (head ++ places_of_ty ret) (Global callee ∷ []) three in
-      rw (maybe-again (λ (at : Loc). Local at ∷ []) (renamed_loc r) (renamed_loc q) (λ at own. loc-again at own.0) dst (front head (places_of_ty ret) two), ty-again ret (back head (places_of_ty ret) two),
-      sym-again callee (back (head ++ places_of_ty ret) (Global callee ∷ []) three).0, args-again args (back ((head ++ places_of_ty ret) ++ Global callee ∷ []) (places_of_args args) all)) refl
+      rw (
+        maybe-again (λ (at : Loc). Local at ∷ []) (renamed_loc r) (renamed_loc q) (λ at own. loc-again at own.0) dst (front head (places_of_ty ret) two),
+        ty-again ret (back head (places_of_ty ret) two),
+        sym-again callee (back (head ++ places_of_ty ret) (Global callee ∷ []) three).0,
+        args-again args (back ((head ++ places_of_ty ret) ++ Global callee ∷ []) (places_of_args args) all),
+      ) refl
   inst-again (insts.Phi dst ty arms) all = rw (loc-again dst all.0, ty-again ty (front (places_of_ty ty) (places_of_arms arms) all.1), arms-again arms (back (places_of_ty ty) (places_of_arms arms) all.1)) refl
   inst-again (insts.Br to) all = rw (loc-again to all.0) refl
   inst-again (insts.CondBr cond on_true on_false) all =
@@ -223,8 +237,12 @@ module _ (r q : Renaming) where
   inst-again (insts.Switch ty on default cases) all =
       let three = front ((places_of_ty ty ++ places_of_val on) ++ Local default ∷ []) (places_of_cases cases) all in
       let two = front (places_of_ty ty ++ places_of_val on) (Local default ∷ []) three in
-      rw (ty-again ty (front (places_of_ty ty) (places_of_val on) two), val-again on (back (places_of_ty ty) (places_of_val on) two), loc-again default (back (places_of_ty ty ++ places_of_val on) (Local default ∷ []) three).0,
-      cases-again cases (back ((places_of_ty ty ++ places_of_val on) ++ Local default ∷ []) (places_of_cases cases) all)) refl
+      rw (
+        ty-again ty (front (places_of_ty ty) (places_of_val on) two),
+        val-again on (back (places_of_ty ty) (places_of_val on) two),
+        loc-again default (back (places_of_ty ty ++ places_of_val on) (Local default ∷ []) three).0,
+        cases-again cases (back ((places_of_ty ty ++ places_of_val on) ++ Local default ∷ []) (places_of_cases cases) all),
+      ) refl
   inst-again (insts.Ret ty val) all = rw (ty-again ty (front (places_of_ty ty) (places_of_option places_of_val val) all), maybe-again places_of_val (renamed_val r) (renamed_val q) val-again val (back (places_of_ty ty) (places_of_option places_of_val val) all)) refl
   inst-again insts.Unreachable all = refl
 

@@ -1,37 +1,32 @@
 -- Frames of a module under other numbers: they stand at the same places, with the same words in registers of other numbers, and do the same.
-use Rattle.std.proofs.Common.{ℕ, zero, suc, ◌≡◌, ◌≢◌, ◌∙◌, ◌+◌, Bool, true, false, cond, not, List, [], ◌∷◌, ◌++◌, map, find, take, length, Option, Some, None, slice_get, refl, ap, sym as flip, subst, arith}
-use Rattle.std.specs.Prelude.{nat_eq, nat_lt, unwrap_or, if◌then◌else◌}
-use Rattle.std.specs.List.{zip, prefix_len, slice_index_or}
-use Rattle.std.specs.Option.{option_map, option_map_or, option_and_then, option_or, is_some}
+use Rattle.std.proofs.Common.{ℕ, suc, ◌≡◌, ◌≢◌, ◌∙◌, ◌+◌, Bool, true, false, List, [], ◌∷◌, map, find, take, Option, Some, None, slice_get, refl, ap, sym as flip, subst}
+use Rattle.std.specs.Prelude.{nat_eq}
+use Rattle.std.specs.List.{zip}
+use Rattle.std.specs.Option.{option_map, option_and_then}
 use Rattle.std.proofs.lemmas.Bool.{eqb-true, eqb-false}
 use Rattle.std.proofs.lemmas.Option.{slice_get-map}
-use Rattle.ir_core.specs.declared.types.Ty.{Ty}
 use Rattle.ir_core.specs.declared.types.Loc.{Loc}
 use Rattle.ir_core.specs.declared.values.Val.{Val}
 use Rattle.ir_core.specs.declared.instruction.Inst.{Inst}
 use Rattle.ir_core.specs.declared.instruction.Inst.TheVariants as insts
 use Rattle.ir_core.specs.declared.instruction.Block.{Block}
 use Rattle.ir_core.specs.Instructions.{is_phi}
-use Rattle.ir_core.specs.Module.{ModuleParts, FuncParts}
+use Rattle.ir_core.specs.Module.{ModuleParts}
 use Rattle.ir_layout.specs.Memory.{LayoutParts, layout_of}
 use Rattle.ir_flow.specs.Edges.{number_of, numbered_from}
-use Rattle.ir_numbering.specs.Renaming.{Renaming, renamed_loc, renamed_ty, renamed_arms, renamed_option, renamed_inst, renamed_block, renamed_val}
-use Rattle.inst_meaning.specs.declared.actions.Action.{Action}
-use Rattle.inst_meaning.specs.declared.actions.Action.TheVariants.{Assign, Reserve, Read, Write, Update, Pass, Jump, Call, Ask, Create, Join, Exit, Return, Fault}
-use Rattle.inst_meaning.specs.Action.{destination}
+use Rattle.ir_numbering.specs.Renaming.{Renaming, renamed_loc, renamed_ty, renamed_arms, renamed_inst, renamed_block, renamed_val}
 use Rattle.inst_meaning.specs.Operands.{typed_word}
 use Rattle.inst_meaning.specs.Phis.{phi_count, phis_of, arm_from, phi_word, phi_words_with, phi_words, assigned, all_assigned}
 use Rattle.inst_meaning.specs.Registers.{get, put}
 use Rattle.inst_meaning.proofs.Puts.{put-here, put-elsewhere}
-use Rattle.process.specs.Frames.{Frames}
 use Rattle.process_laws.proofs.Likeness.{Likeness}
 use Rattle.process_laws.proofs.Likeness as likeness
 use Rattle.src_meaning.specs.declared.state.Frame.{Frame}
-use Rattle.src_meaning.specs.State.{blocks_at, params_at, entry_frame, inst_at, code_at}
-use Rattle.src_meaning.specs.Step.{passed, resulted, landed, land, jump_from, jump_in, jumped, suspended, resumed, frames}
+use Rattle.src_meaning.specs.State.{blocks_at, params_at, entry_frame}
+use Rattle.src_meaning.specs.Step.{passed, resulted, landed, land, jump_from, jump_in, jumped, suspended, resumed}
 use Rattle.tx_simulation.proofs.RenamedTypes.{IsApart, same-test, find-map, take-map}
 use Rattle.tx_simulation.proofs.RenamedMemory.{renamed_layout}
-use Rattle.tx_simulation.proofs.RenamedActions.{renamed_action, AgreeBy, typed-same}
+use Rattle.tx_simulation.proofs.RenamedActions.{AgreeBy, typed-same}
 use Rattle.tx_simulation.proofs.Renames.{Renames, inside, layout-same, blocks-same, params-same}
 
 -- ---- registers

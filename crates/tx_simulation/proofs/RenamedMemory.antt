@@ -1,7 +1,6 @@
 -- The memory of a module under other numbers of its names: globals stand where they stood, and the same bytes are there from the start.
-use Rattle.std.proofs.Common.{ℕ, zero, suc, ◌≡◌, ◌∙◌, ◌+◌, ◌-◌, Bool, true, false, ◌&&◌, ◌||◌, List, [], ◌∷◌, ◌++◌, map, find, reverse, length, fold, Option, Some, None, refl, ap, sym as flip, subst}
+use Rattle.std.proofs.Common.{ℕ, ◌≡◌, ◌∙◌, Bool, ◌||◌, List, [], ◌∷◌, map, find, reverse, fold, Option, Some, None, refl, ap, sym as flip}
 use Rattle.std.specs.Prelude.{nat_eq, unwrap_or}
-use Rattle.std.specs.List.{list_any}
 use Rattle.std.specs.Option.{option_map}
 use Rattle.ir_core.specs.declared.types.Ty.{Ty}
 use Rattle.ir_core.specs.declared.types.TypeId.{TypeId}
@@ -13,17 +12,11 @@ use Rattle.ir_core.specs.declared.values.Init as opened
 use Rattle.ir_core.specs.declared.values.Init.TheFolds.{fold-roll-Init, ind-Init}
 use Rattle.ir_core.specs.declared.values.Init.TheOpen.{Init-F}
 use Rattle.ir_layout.specs.declared.spans.Span.{Span}
-use Rattle.ir_layout.specs.KeptShapes.{word}
-use Rattle.ir_layout.specs.Memory.{LayoutParts, globals_start, area_size, spans_from, span_at, end_of, address_of, lies_in, lies_in_global, lies_in_stack, lies_in_heap, is_access_size, is_valid}
-use Rattle.ir_layout.specs.Offsets.{offset_of}
-use Rattle.ir_layout.specs.Shapes.{Shape, round_up, known_shape, size_of, field_start}
-use Rattle.ir_layout.specs.Limits.{limit_of}
-use Rattle.ir_layout.specs.declared.limits.LimitKind.{LimitKind}
+use Rattle.ir_layout.specs.Memory.{LayoutParts, spans_from, span_at, end_of, lies_in, lies_in_global, is_valid}
 use Rattle.ir_numbering.specs.Renaming.{Renaming, renamed_ty, renamed_sym, renamed_gep, renamed_init, renamed_init_step, renamed_global}
 use Rattle.ir_numbering.specs.Numbers.{renamed_named}
-use Rattle.mem_image.specs.Bytes.{Memory}
-use Rattle.mem_image.specs.Opening.{exactly, size_within, size_in, address_in, inner_address, with_part, init_step, bytes_given, bytes_of_init, with_global, opening}
-use Rattle.tx_simulation.proofs.RenamedTypes.{IsApart, same-test, find-map, reverse-map, map-map, known-same, size-same, limit-same, offset-same}
+use Rattle.mem_image.specs.Opening.{size_in, address_in, inner_address, with_part, init_step, bytes_given, bytes_of_init, with_global, opening}
+use Rattle.tx_simulation.proofs.RenamedTypes.{IsApart, same-test, find-map, reverse-map, known-same, size-same, limit-same, offset-same}
 
 -- a place with the other number of its global
 abbrev pub renamed_span : Renaming → Span → Span

@@ -1,16 +1,15 @@
 -- Runs of a module under other numbers: the same answers, outputs and codes at the same turns, and the same accesses, so the same races.
-use Rattle.std.proofs.Common.{ℕ, zero, suc, ◌≡◌, ◌∙◌, ◌%◌, ◌^◌, Bool, true, false, ◌||◌, List, [], ◌∷◌, ◌++◌, map, find, length, Option, Some, None, slice_get, slice_set, refl, ap, sym as flip, subst}
-use Rattle.std.specs.Prelude.{nat_lt, unwrap_or}
-use Rattle.std.specs.Option.{option_map, option_map_or, is_some}
+use Rattle.std.proofs.Common.{ℕ, zero, suc, ◌≡◌, ◌∙◌, Bool, true, false, List, [], ◌∷◌, map, find, length, Option, Some, None, slice_get, refl, ap, sym as flip, subst}
+use Rattle.std.specs.Prelude.{nat_lt}
+use Rattle.std.specs.Option.{option_map, option_map_or}
 use Rattle.std.proofs.lemmas.Option.{slice_get-map}
 use Rattle.ir_core.specs.declared.types.Loc.{Loc}
 use Rattle.ir_core.specs.declared.instruction.Inst.{Inst}
 use Rattle.ir_core.specs.declared.instruction.Inst.TheVariants as insts
 use Rattle.ir_core.specs.declared.instruction.Block.{Block}
 use Rattle.ir_core.specs.Module.{ModuleParts}
-use Rattle.ir_layout.specs.declared.spans.Span.{Span}
-use Rattle.ir_layout.specs.Memory.{LayoutParts, layout_of, stacks_start, heap_start, is_valid, thread_limit}
-use Rattle.ir_numbering.specs.Renaming.{Renaming, renamed_loc, renamed_option, renamed_inst, renamed_block}
+use Rattle.ir_layout.specs.Memory.{LayoutParts, layout_of, stacks_start, heap_start}
+use Rattle.ir_numbering.specs.Renaming.{Renaming, renamed_loc, renamed_inst, renamed_block}
 use Rattle.mem_image.specs.Accesses.{bytes}
 use Rattle.mem_image.specs.Bytes.{Memory}
 use Rattle.mem_image.specs.Touches.{Store, memory_with}
@@ -26,9 +25,8 @@ use Rattle.process.specs.declared.state.CallStack.{CallStack}
 use Rattle.process.specs.declared.state.Thread.{Thread}
 use Rattle.process.specs.declared.state.Thread.TheVariants.{Running, Exiting, Ended as HasEnded}
 use Rattle.process.specs.declared.state.Step.{Step}
-use Rattle.process.specs.declared.state.Step.TheVariants.{Went, Waits as Waited, Idle, Undefined, Ended}
-use Rattle.process.specs.Outcome.{Outcome, Goes, Waits, Faults, Ends, outcome_of}
-use Rattle.process.specs.Process.{applied, done}
+use Rattle.process.specs.Outcome.{Outcome, outcome_of}
+use Rattle.process.specs.Process.{done}
 use Rattle.process_laws.proofs.Likeness as likeness
 use Rattle.process_laws.proofs.Likeness.{BothGo, BothWait, BothFault, BothEnd}
 use Rattle.src_meaning.specs.declared.state.Frame.{Frame}
@@ -37,7 +35,7 @@ use Rattle.src_meaning.specs.Step.{jumped, frames, opening, action_in, settled, 
 use Rattle.src_meaning.specs.Races.{access_in, access_by, unless_over, next_access, is_race, pairs_of, race_of, IsGood}
 use Rattle.src_meaning.specs.Runs.{Run, run_from, source}
 use Rattle.tx_simulation.proofs.RenamedMemory.{renamed_span, renamed_layout, valid-same, opening-same}
-use Rattle.tx_simulation.proofs.RenamedActions.{renamed_action, AgreeBy, acts-same}
+use Rattle.tx_simulation.proofs.RenamedActions.{renamed_action, acts-same}
 use Rattle.tx_simulation.proofs.Renames.{Renames, inside, layout-same, blocks-same, callees-same, main-same}
 use Rattle.tx_simulation.proofs.RenamedFrames.{within, SameFrame, alike, passes, results, suspends, resumes, entries, jumps}
 

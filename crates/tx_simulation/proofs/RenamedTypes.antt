@@ -1,11 +1,10 @@
 -- Types under other numbers of their names: sizes, limits and offsets are the same.
-use Rattle.std.proofs.Common.{ℕ, zero, suc, ◌≡◌, ◌∙◌, ◌+◌, Bool, true, false, List, [], ◌∷◌, ◌++◌, map, find, reverse, take, fold, Option, Some, None, slice_get, refl, ap, sym, subst}
+use Rattle.std.proofs.Common.{ℕ, zero, suc, ◌≡◌, ◌∙◌, ◌+◌, Bool, true, false, List, [], ◌∷◌, map, find, reverse, take, Option, Some, None, slice_get, refl, ap, sym}
 use mathlib.Core.List.{reverse_aux}
-use Rattle.std.specs.Prelude.{nat_eq, ◌*◌, unwrap_or, cond, if◌then◌else◌}
+use Rattle.std.specs.Prelude.{nat_eq, ◌*◌, unwrap_or, if◌then◌else◌}
 use Rattle.std.specs.Option.{option_map, option_and_then}
-use Rattle.std.proofs.lemmas.Bool.{eqb-true, eqb-false, eq-eqb}
+use Rattle.std.proofs.lemmas.Bool.{eqb-true, eq-eqb}
 use Rattle.std.proofs.lemmas.Option.{slice_get-map}
-use Rattle.std.proofs.lemmas.List.{map-append}
 use Rattle.ir_core.specs.declared.types.Ty.{Ty, map-Ty, roll-Ty}
 use Rattle.ir_core.specs.declared.types.Ty as opened
 use Rattle.ir_core.specs.declared.types.Ty.TheFolds.{fold-roll-Ty, ind-Ty}
@@ -13,10 +12,10 @@ use Rattle.ir_core.specs.declared.types.Ty.TheOpen.{Ty-F}
 use Rattle.ir_core.specs.declared.types.Ty.TheViews.{out-Ty, out-roll-Ty, roll-out-Ty}
 use Rattle.ir_core.specs.declared.types.TypeId.{TypeId}
 use Rattle.ir_core.specs.declared.types.Width.{Width}
-use Rattle.ir_layout.specs.Shapes.{Shape, shape_step, shape_with, fields_of, array_of, struct_of, within, depth_limit, definition_of, body_shape, named_shape, shape_of, known_shape, size_of, nothing, with_field}
+use Rattle.ir_layout.specs.Shapes.{Shape, shape_step, shape_with, fields_of, array_of, struct_of, within, depth_limit, definition_of, body_shape, named_shape, shape_of, known_shape, size_of, nothing}
 use Rattle.ir_layout.specs.Limits.{limit_of, limit_of_shape}
 use Rattle.ir_layout.specs.Offsets.{fields_step, own_fields, named_fields_step, fields, field_offset, numbered_field, field_at, entered_step, entered, inner_offset, offset_of, signed_word, is_i32}
-use Rattle.ir_numbering.specs.Renaming.{Renaming, renamed_step, renamed_ty, renamed_type_id}
+use Rattle.ir_numbering.specs.Renaming.{Renaming, renamed_step, renamed_ty}
 use Rattle.ir_numbering.specs.Numbers.{renamed_named}
 
 -- no two numbers become one

@@ -2,13 +2,11 @@
 --
 -- Choices: this is what `IsSameModule` gives where no two names of a table have one number. A function's registers and labels have a numbering of
 -- their own, told here for every number, so that it may be used without a function.
-use Rattle.std.proofs.Common.{ℕ, zero, suc, ◌≡◌, ◌∙◌, ◌+◌, ◌&&◌, Bool, true, false, not, cond, List, [], ◌∷◌, ◌++◌, map, length, Option, Some, None, slice_get, refl, ap, sym as flip, subst, arith}
-use Rattle.std.specs.Prelude.{nat_eq, nat_lt, unwrap_or, codes, if◌then◌else◌}
-use Rattle.std.specs.Str.{bytes_eq}
+use Rattle.std.proofs.Common.{ℕ, zero, suc, ◌≡◌, ◌∙◌, ◌+◌, Bool, not, cond, List, [], ◌∷◌, map, length, Option, Some, None, slice_get, refl, ap, sym as flip, subst, arith}
+use Rattle.std.specs.Prelude.{nat_eq, unwrap_or}
 use Rattle.std.specs.List.{slice_index_or, range_with_len, position, position_or_len}
-use Rattle.std.specs.Option.{option_map, option_map_or}
+use Rattle.std.specs.Option.{option_map_or}
 use Rattle.std.proofs.lemmas.Option.{unwrap_or-slice_get}
-use Rattle.std.proofs.lemmas.List.{length-map}
 use Rattle.ir_core.specs.declared.types.Ty.{Ty, map-Ty}
 use Rattle.ir_core.specs.declared.types.Ty as opened
 use Rattle.ir_core.specs.declared.types.Ty.TheVariants as types
@@ -19,19 +17,16 @@ use Rattle.ir_core.specs.declared.types.Sym.{Sym}
 use Rattle.ir_core.specs.declared.types.Loc.{Loc}
 use Rattle.ir_core.specs.declared.types.Width.{Width}
 use Rattle.ir_core.specs.declared.types.Width.TheVariants.{W32}
-use Rattle.ir_core.specs.declared.instruction.Block.{Block}
 use Rattle.ir_core.specs.Module.{ModuleParts, FuncParts}
 use Rattle.ir_layout.specs.Memory.{LayoutParts, layout_of, globals_start}
 use Rattle.ir_layout.specs.declared.spans.Span.{Span}
 use Rattle.ir_lines.specs.SameTypes.{same_ty, same_layer}
-use Rattle.ir_calls.specs.Calls.{external_named}
-use Rattle.ir_calls.specs.Externals.{external_of}
 use Rattle.ir_check.specs.Functions.{is_empty, is_main}
 use Rattle.ir_numbering.specs.Renaming.{Renaming, renamed_loc, renamed_sym, renamed_ty, renamed_block, renamed_param, renamed_func, renamed_global}
 use Rattle.ir_numbering.specs.Numbers.{renamed_named}
 use Rattle.inst_meaning.specs.declared.actions.Callee.{Callee}
 use Rattle.inst_meaning.specs.declared.actions.Callee.TheVariants.{Unknown}
-use Rattle.inst_meaning.specs.Action.{numbered_function, callee_with, callee_of, callees_of}
+use Rattle.inst_meaning.specs.Action.{numbered_function, callee_of, callees_of}
 use Rattle.src_meaning.specs.State.{blocks_at, params_at, main_of}
 use Rattle.tx_simulation.proofs.RenamedTypes.{IsApart, same-test, numbered_layer, out-renamed}
 use Rattle.tx_simulation.proofs.RenamedMemory.{renamed_layout, spans-same}

@@ -2,7 +2,7 @@
 --
 -- Choices: a renaming says something of each number, and only what it says of numbers of names counts. So it is first carried on past the tables, such
 -- that no two numbers become one; nothing in the module is past its tables.
-use Rattle.std.proofs.Common.{ℕ, zero, suc, ◌≡◌, ◌≢◌, ◌⊎◌, inl, inr, ◌∙◌, ◌+◌, ◌<◌, ◌≤◌, Bool, true, false, List, [], ◌∷◌, ◌++◌, map, length, get_or, Option, Some, None, slice_get, refl, ap, sym as flip, subst, arith}
+use Rattle.std.proofs.Common.{ℕ, ◌≡◌, ◌⊎◌, inl, inr, ◌∙◌, ◌+◌, ◌<◌, ◌≤◌, true, false, List, [], ◌∷◌, length, Option, Some, None, slice_get, refl, ap, sym as flip, subst, arith}
 use Rattle.std.specs.Prelude.{nat_lt, if◌then◌else◌}
 use Rattle.std.specs.List.{flat_map}
 use Rattle.std.proofs.lemmas.Bool.Decides.{nat_tests}
@@ -11,13 +11,13 @@ use Rattle.ir_core.specs.Module.{ModuleParts, FuncParts}
 use Rattle.ir_numbering.specs.declared.places.Place.{Place}
 use Rattle.ir_numbering.specs.declared.places.Place.TheVariants.{Local, Struct, Global}
 use Rattle.ir_numbering.specs.Places.{mentions_of_func, places_of_global}
-use Rattle.ir_numbering.specs.Numbers.{places_of_named, renamed_named}
-use Rattle.ir_numbering.specs.Renaming.{Renaming, renamed_func, renamed_global}
-use Rattle.hard_ir.specs.Images.{Keeps, IsSameFunc, IsSameModule}
+use Rattle.ir_numbering.specs.Numbers.{places_of_named}
+use Rattle.ir_numbering.specs.Renaming.{Renaming}
+use Rattle.hard_ir.specs.Images.{Keeps, IsSameModule}
 use Rattle.src_meaning.specs.Races.{IsGood}
 use Rattle.src_meaning.specs.Runs.{source}
 use Rattle.tx_simulation.proofs.RenamedTypes.{IsApart}
-use Rattle.tx_simulation.proofs.RenamedAgain.{AllAt, AgreeAt, AllAgree, func-again, types-again, globals-again}
+use Rattle.tx_simulation.proofs.RenamedAgain.{AllAt, AgreeAt, func-again, types-again, globals-again}
 use Rattle.tx_simulation.proofs.Renames.{Renames, IsRenamedAt}
 use Rattle.tx_simulation.proofs.RenamedRuns.{sources, outputs, goods}
 use Rattle.tx_simulation.proofs.Blocks.{same-place}
