@@ -31,3 +31,4 @@ pub mod RenamedFrames
 pub mod RenamedRuns
 pub mod RenamedAgain
 pub mod SameModules
+pub mod RenamedPlaces
