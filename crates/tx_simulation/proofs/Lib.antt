@@ -32,3 +32,4 @@ pub mod RenamedRuns
 pub mod RenamedAgain
 pub mod SameModules
 pub mod RenamedPlaces
+pub mod NumberedModules

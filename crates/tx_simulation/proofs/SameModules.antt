@@ -92,12 +92,18 @@ IsWithin m names (Local at) = at.0 < length names
 IsWithin m names (Struct id) = id.0 < length m.type_names
 IsWithin m names (Global name) = name.0 < length m.syms
 
+-- the same outside functions, where no register or label is told of
+abbrev pub IsOuter : ModuleParts → Place → Type 0
+IsOuter m (Local at) = Unit {0}
+IsOuter m (Struct id) = id.0 < length m.type_names
+IsOuter m (Global name) = name.0 < length m.syms
+
 pub record AreNumbered (m : ModuleParts) : Type 0 where
   pub type_names : AreDistinct m.type_names
   pub syms : AreDistinct m.syms
   pub names : (n : ℕ) (f : FuncParts) → slice_get m.funcs n ≡ Some f → AreDistinct f.names
-  pub types : AllAt (IsWithin m []) (flat_map places_of_named m.types)
-  pub globals : AllAt (IsWithin m []) (flat_map places_of_global m.globals)
+  pub types : AllAt (IsOuter m) (flat_map places_of_named m.types)
+  pub globals : AllAt (IsOuter m) (flat_map places_of_global m.globals)
   pub funcs : (n : ℕ) (f : FuncParts) → slice_get m.funcs n ≡ Some f → AllAt (IsWithin m f.names) (mentions_of_func f)
 
 all-so : (P Q : Place → Type 0) → ((place : Place) → P place → Q place) → (places : List Place) → AllAt P places → AllAt Q places
@@ -119,7 +125,7 @@ module _ (m other : ModuleParts) (same : IsSameModule m other) (numbered : AreNu
   agree-in names others loc (Struct id) keeps within = flip (on-within m.type_names other.type_names same.outer.type_id same.type_names id.0 within)
   agree-in names others loc (Global name) keeps within = flip (on-within m.syms other.syms same.outer.sym same.syms name.0 within)
 
-  agree-out : (place : Place) → IsWithin m [] place → AgreeAt same.outer outer_on place
+  agree-out : (place : Place) → IsOuter m place → AgreeAt same.outer outer_on place
   agree-out (Local at) within = refl
   agree-out (Struct id) within = flip (on-within m.type_names other.type_names same.outer.type_id same.type_names id.0 within)
   agree-out (Global name) within = flip (on-within m.syms other.syms same.outer.sym same.syms name.0 within)
@@ -164,8 +170,8 @@ module _ (m other : ModuleParts) (same : IsSameModule m other) (numbered : AreNu
     type_apart = on-apart m.type_names other.type_names same.outer.type_id same.type_names numbered.type_names;
     sym_apart = on-apart m.syms other.syms same.outer.sym same.syms numbered.syms;
     loc_apart = λ n. (in-func n).apart;
-    types = same.types ∙ types-again same.outer outer_on m.types (all-so (IsWithin m []) (AgreeAt same.outer outer_on) agree-out (flat_map places_of_named m.types) numbered.types);
-    globals = same.globals ∙ globals-again same.outer outer_on m.globals (all-so (IsWithin m []) (AgreeAt same.outer outer_on) agree-out (flat_map places_of_global m.globals) numbered.globals);
+    types = same.types ∙ types-again same.outer outer_on m.types (all-so (IsOuter m) (AgreeAt same.outer outer_on) agree-out (flat_map places_of_named m.types) numbered.types);
+    globals = same.globals ∙ globals-again same.outer outer_on m.globals (all-so (IsOuter m) (AgreeAt same.outer outer_on) agree-out (flat_map places_of_global m.globals) numbered.globals);
     count = same.count;
     funcs = λ n. (in-func n).is;
     names = on-names m.syms other.syms same.outer.sym same.syms;
