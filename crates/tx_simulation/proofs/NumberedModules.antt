@@ -19,7 +19,7 @@ use Rattle.ir_numbering.specs.Renaming.{Renaming, renamed_func, renamed_global}
 use Rattle.ir_numbering.specs.Numbers.{locals_at, structs_at, globals_at, with_names, module_with, func_with, renaming_of, renaming_outside, numbered_func, places_of_named, places_of_module, renamed_named, numbered_module}
 use Rattle.ir_numbering.proofs.Kept.{HasNumber-with}
 use Rattle.tx_simulation.proofs.RenamedAgain.{AllAt, front-at, back-at}
-use Rattle.tx_simulation.proofs.RenamedPlaces.{renamed_place, mentions-moved, types-moved, globals-moved}
+use Rattle.tx_simulation.proofs.RenamedPlaces.{renamed_place, mentions-moved, types-moved, globals-moved, declares-moved}
 use Rattle.tx_simulation.proofs.SameModules.{AreDistinct, IsWithin, IsOuter, AreNumbered}
 
 -- ---- tables
@@ -126,6 +126,10 @@ module _ (text : List ℕ) (tree : ModuleParts) where
   outer-globals = subst (AllAt (IsOuter made)) (flip (globals-moved outer tree.globals))
       (all-map (IsOuter made) (renamed_place outer) of_globals (back-at Outer of_types of_globals (front-at Outer (of_types ++ of_globals) of_declares (front-at Outer ((of_types ++ of_globals) ++ of_declares) of_funcs all-outer))))
 
+  outer-declares : AllAt (IsOuter made) (flat_map places_of_declare made.declares)
+  outer-declares = subst (AllAt (IsOuter made)) (flip (declares-moved outer tree.declares))
+      (all-map (IsOuter made) (renamed_place outer) of_declares (back-at Outer (of_types ++ of_globals) of_declares (front-at Outer ((of_types ++ of_globals) ++ of_declares) of_funcs all-outer)))
+
   -- ---- functions
 
   module _ (f : FuncParts) where
@@ -170,5 +174,6 @@ module _ (text : List ℕ) (tree : ModuleParts) where
     names = λ n g e. let from = func-of n g e in subst (λ (h : FuncParts). AreDistinct h.names) from.2 (taken-distinct (locals_at text (places_of_func from.0)));
     types = outer-types;
     globals = outer-globals;
+    declares = outer-declares;
     funcs = λ n g e. let from = func-of n g e in subst (λ (h : FuncParts). AllAt (IsWithin made h.names) (mentions_of_func h)) from.2 (func-within from.0 n from.1);
   }

@@ -12,6 +12,7 @@ use Rattle.ir_core.specs.declared.types.Width.{Width}
 use Rattle.ir_core.specs.declared.values.ConstGep.{ConstGep}
 use Rattle.ir_core.specs.declared.values.Val.{Val}
 use Rattle.ir_core.specs.declared.values.Val.TheVariants as values
+use Rattle.ir_core.specs.declared.values.Declare.{Declare}
 use Rattle.ir_core.specs.declared.values.GlobalVar.{GlobalVar}
 use Rattle.ir_core.specs.declared.values.Init.{Init, map-Init}
 use Rattle.ir_core.specs.declared.values.Init.TheFolds.{fold-roll-Init, ind-Init}
@@ -23,8 +24,8 @@ use Rattle.ir_core.specs.declared.instruction.Block.{Block}
 use Rattle.ir_core.specs.Module.{FuncParts}
 use Rattle.ir_numbering.specs.declared.places.Place.{Place}
 use Rattle.ir_numbering.specs.declared.places.Place.TheVariants.{Local, Struct, Global}
-use Rattle.ir_numbering.specs.Places.{places_step, places_of_ty, places_of_gep, places_of_val, places_init_step, places_of_init, places_of_option, places_of_args, places_of_arms, places_of_cases, places_of_index, places_of_inst, places_of_block, places_of_global, mentions_of_func}
-use Rattle.ir_numbering.specs.Renaming.{Renaming, renamed_loc, renamed_sym, renamed_type_id, renamed_step, renamed_ty, renamed_gep, renamed_val, renamed_init_step, renamed_init, renamed_args, renamed_arms, renamed_cases, renamed_index, renamed_option, renamed_inst, renamed_block, renamed_param, renamed_func, renamed_global}
+use Rattle.ir_numbering.specs.Places.{places_step, places_of_ty, places_of_gep, places_of_val, places_init_step, places_of_init, places_of_option, places_of_args, places_of_arms, places_of_cases, places_of_index, places_of_inst, places_of_block, places_of_global, places_of_declare, mentions_of_func}
+use Rattle.ir_numbering.specs.Renaming.{Renaming, renamed_loc, renamed_sym, renamed_type_id, renamed_step, renamed_ty, renamed_gep, renamed_val, renamed_init_step, renamed_init, renamed_args, renamed_arms, renamed_cases, renamed_index, renamed_option, renamed_inst, renamed_block, renamed_param, renamed_func, renamed_global, renamed_declare}
 use Rattle.ir_numbering.specs.Numbers.{places_of_named, renamed_named}
 
 -- something holds at all places
@@ -278,3 +279,13 @@ module _ (r q : Renaming) where
 
   pub globals-again : (globals : List GlobalVar) → AllAgree (flat_map places_of_global globals) → map (renamed_global r) globals ≡ map (renamed_global q) globals
   globals-again = each places_of_global (renamed_global r) (renamed_global q) global-again
+
+  declare-again : (declare : Declare) → AllAgree (places_of_declare declare) → renamed_declare r declare ≡ renamed_declare q declare
+  declare-again declare all =
+      let params = flat_map places_of_ty declare.params in
+      let head = front (places_of_ty declare.ret ++ Global declare.sym ∷ []) params all in
+      let given = each places_of_ty (renamed_ty r) (renamed_ty q) ty-again declare.params (back (places_of_ty declare.ret ++ Global declare.sym ∷ []) params all) in
+      rw (sym-again declare.sym (back (places_of_ty declare.ret) (Global declare.sym ∷ []) head).0, ty-again declare.ret (front (places_of_ty declare.ret) (Global declare.sym ∷ []) head), given) refl
+
+  pub declares-again : (declares : List Declare) → AllAgree (flat_map places_of_declare declares) → map (renamed_declare r) declares ≡ map (renamed_declare q) declares
+  declares-again = each places_of_declare (renamed_declare r) (renamed_declare q) declare-again

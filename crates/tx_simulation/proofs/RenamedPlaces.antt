@@ -13,6 +13,7 @@ use Rattle.ir_core.specs.declared.types.Width.{Width}
 use Rattle.ir_core.specs.declared.values.ConstGep.{ConstGep}
 use Rattle.ir_core.specs.declared.values.Val.{Val}
 use Rattle.ir_core.specs.declared.values.Val.TheVariants as values
+use Rattle.ir_core.specs.declared.values.Declare.{Declare}
 use Rattle.ir_core.specs.declared.values.GlobalVar.{GlobalVar}
 use Rattle.ir_core.specs.declared.values.Init.{Init, map-Init}
 use Rattle.ir_core.specs.declared.values.Init as opened_inits
@@ -24,8 +25,8 @@ use Rattle.ir_core.specs.declared.instruction.Block.{Block}
 use Rattle.ir_core.specs.Module.{FuncParts}
 use Rattle.ir_numbering.specs.declared.places.Place.{Place}
 use Rattle.ir_numbering.specs.declared.places.Place.TheVariants.{Local, Struct, Global}
-use Rattle.ir_numbering.specs.Places.{places_step, places_of_ty, places_of_gep, places_of_val, places_init_step, places_of_init, places_of_option, places_of_args, places_of_arms, places_of_cases, places_of_index, places_of_inst, places_of_block, places_of_global, mentions_of_func}
-use Rattle.ir_numbering.specs.Renaming.{Renaming, renamed_loc, renamed_sym, renamed_type_id, renamed_step, renamed_ty, renamed_gep, renamed_val, renamed_init_step, renamed_init, renamed_args, renamed_arms, renamed_cases, renamed_index, renamed_option, renamed_inst, renamed_block, renamed_param, renamed_func, renamed_global}
+use Rattle.ir_numbering.specs.Places.{places_step, places_of_ty, places_of_gep, places_of_val, places_init_step, places_of_init, places_of_option, places_of_args, places_of_arms, places_of_cases, places_of_index, places_of_inst, places_of_block, places_of_global, places_of_declare, mentions_of_func}
+use Rattle.ir_numbering.specs.Renaming.{Renaming, renamed_loc, renamed_sym, renamed_type_id, renamed_step, renamed_ty, renamed_gep, renamed_val, renamed_init_step, renamed_init, renamed_args, renamed_arms, renamed_cases, renamed_index, renamed_option, renamed_inst, renamed_block, renamed_param, renamed_func, renamed_global, renamed_declare}
 use Rattle.ir_numbering.specs.Numbers.{places_of_named, renamed_named}
 
 -- a place of another number
@@ -35,11 +36,11 @@ renamed_place r (Struct id) = Struct (renamed_type_id r id)
 renamed_place r (Global name) = Global (renamed_sym r name)
 
 module _ (r : Renaming) where
-  abbrev moved : List Place → List Place
+  abbrev pub moved : List Place → List Place
   moved places = map (renamed_place r) places
 
   -- places that are those of another tree, renamed
-  abbrev AreMoved : List Place → List Place → Type 0
+  abbrev pub AreMoved : List Place → List Place → Type 0
   AreMoved renamed places = renamed ≡ moved places
 
   both : (xs ys renamed_xs renamed_ys : List Place) → AreMoved renamed_xs xs → AreMoved renamed_ys ys → AreMoved (renamed_xs ++ renamed_ys) (xs ++ ys)
@@ -85,7 +86,7 @@ module _ (r : Renaming) where
   layer-moved (Ty-F.Struct parts) = fold-roll-Ty (List Place) places_step (Ty-F.Struct (map (renamed_ty r) (map (λ e. e.0) parts))) ∙ parts-moved parts
   layer-moved (Ty-F.Named id) = fold-roll-Ty (List Place) places_step (Ty-F.Named (renamed_type_id r id))
 
-  ty-moved : (ty : Ty) → AreMoved (places_of_ty (renamed_ty r ty)) (places_of_ty ty)
+  pub ty-moved : (ty : Ty) → AreMoved (places_of_ty (renamed_ty r ty)) (places_of_ty ty)
   ty-moved = ind-Ty IsMovedTy (λ x y is.
       ap places_of_ty (fold-roll-Ty Ty (renamed_step r.type_id) x ∙ ap (λ (z : Ty-F Ty). renamed_step r.type_id (map-Ty Ty Ty (renamed_ty r) z)) (flip is))
       ∙ layer-moved y
@@ -134,7 +135,7 @@ module _ (r : Renaming) where
   init-layer-moved (Init-F.Bytes bs) = fold-roll-Init (List Place) places_init_step (Init-F.Bytes bs)
   init-layer-moved (Init-F.Parts parts) = fold-roll-Init (List Place) places_init_step (Init-F.Parts (parts_by (bare parts))) ∙ init-parts-moved parts
 
-  init-moved : (init : Init) → AreMoved (places_of_init (renamed_init r init)) (places_of_init init)
+  pub init-moved : (init : Init) → AreMoved (places_of_init (renamed_init r init)) (places_of_init init)
   init-moved = ind-Init IsMovedInit (λ x y is.
       ap places_of_init (fold-roll-Init Init (renamed_init_step r) x ∙ ap (λ (z : Init-F Init). renamed_init_step r (map-Init Init Init (renamed_init r) z)) (flip is))
       ∙ init-layer-moved y
@@ -157,7 +158,7 @@ module _ (r : Renaming) where
   index-moved : (indices : List (Width × Val)) → AreMoved (places_of_index (renamed_index r indices)) (places_of_index indices)
   index-moved = each (λ (index : Width × Val). places_of_val index.1) (λ index. (index.0, renamed_val r index.1)) (λ index. val-moved index.1)
 
-  inst-moved : (inst : Inst) → AreMoved (places_of_inst (renamed_inst r inst)) (places_of_inst inst)
+  pub inst-moved : (inst : Inst) → AreMoved (places_of_inst (renamed_inst r inst)) (places_of_inst inst)
   inst-moved (insts.Bin dst op flags w a b) = rw (val-moved a, val-moved b) (ap (λ ps. Local (renamed_loc r dst) ∷ ps) (flip (map-append (renamed_place r) (places_of_val a) (places_of_val b))))
   inst-moved (insts.Cmp dst pred ty a b) = ap (λ ps. Local (renamed_loc r dst) ∷ ps) (three (places_of_ty ty) (places_of_val a) (places_of_val b) _ _ _ (ty-moved ty) (val-moved a) (val-moved b))
   inst-moved (insts.Select dst cond ty a b) = ap (λ ps. Local (renamed_loc r dst) ∷ ps) (four (places_of_val cond) (places_of_ty ty) (places_of_val a) (places_of_val b) _ _ _ _ (val-moved cond) (ty-moved ty) (val-moved a) (val-moved b))
@@ -185,7 +186,7 @@ module _ (r : Renaming) where
   block-moved : (block : Block) → AreMoved (places_of_block (renamed_block r block)) (places_of_block block)
   block-moved block = ap (λ ps. Local (renamed_loc r block.label) ∷ ps) (each places_of_inst (renamed_inst r) inst-moved block.insts)
 
-  params-moved : (params : List (Ty × Loc)) → AreMoved (flat_map (λ (param : Ty × Loc). places_of_ty param.0 ++ Local param.1 ∷ []) (map (renamed_param r) params)) (flat_map (λ (param : Ty × Loc). places_of_ty param.0 ++ Local param.1 ∷ []) params)
+  pub params-moved : (params : List (Ty × Loc)) → AreMoved (flat_map (λ (param : Ty × Loc). places_of_ty param.0 ++ Local param.1 ∷ []) (map (renamed_param r) params)) (flat_map (λ (param : Ty × Loc). places_of_ty param.0 ++ Local param.1 ∷ []) params)
   params-moved = each (λ (param : Ty × Loc). places_of_ty param.0 ++ Local param.1 ∷ []) (renamed_param r) (λ param. both (places_of_ty param.0) (Local param.1 ∷ []) _ _ (ty-moved param.0) refl)
 
   pub mentions-moved : (f : FuncParts) → AreMoved (mentions_of_func (renamed_func r f)) (mentions_of_func f)
@@ -195,6 +196,15 @@ module _ (r : Renaming) where
   pub types-moved : (types : List (TypeId × Ty)) → AreMoved (flat_map places_of_named (map (renamed_named r) types)) (flat_map places_of_named types)
   types-moved = each places_of_named (renamed_named r) (λ named. ap (λ ps. Struct (renamed_type_id r named.0) ∷ ps) (ty-moved named.1))
 
+  pub global-moved : (global : GlobalVar) → AreMoved (places_of_global (renamed_global r global)) (places_of_global global)
+  global-moved global = ap (λ ps. Global (renamed_sym r global.sym) ∷ ps)
+      (both (places_of_ty global.ty) (places_of_init global.init) _ _ (ty-moved global.ty) (init-moved global.init))
+
   pub globals-moved : (globals : List GlobalVar) → AreMoved (flat_map places_of_global (map (renamed_global r) globals)) (flat_map places_of_global globals)
-  globals-moved = each places_of_global (renamed_global r) (λ global. ap (λ ps. Global (renamed_sym r global.sym) ∷ ps)
-      (both (places_of_ty global.ty) (places_of_init global.init) _ _ (ty-moved global.ty) (init-moved global.init)))
+  globals-moved = each places_of_global (renamed_global r) global-moved
+
+  pub declare-moved : (declare : Declare) → AreMoved (places_of_declare (renamed_declare r declare)) (places_of_declare declare)
+  declare-moved declare = three (places_of_ty declare.ret) (Global declare.sym ∷ []) (flat_map places_of_ty declare.params) _ _ _ (ty-moved declare.ret) refl (each places_of_ty (renamed_ty r) ty-moved declare.params)
+
+  pub declares-moved : (declares : List Declare) → AreMoved (flat_map places_of_declare (map (renamed_declare r) declares)) (flat_map places_of_declare declares)
+  declares-moved = each places_of_declare (renamed_declare r) declare-moved

@@ -22,7 +22,7 @@ use Rattle.ir_layout.specs.Memory.{LayoutParts, layout_of, globals_start}
 use Rattle.ir_layout.specs.declared.spans.Span.{Span}
 use Rattle.ir_lines.specs.SameTypes.{same_ty, same_layer}
 use Rattle.ir_check.specs.Functions.{is_empty, is_main}
-use Rattle.ir_numbering.specs.Renaming.{Renaming, renamed_loc, renamed_sym, renamed_ty, renamed_block, renamed_param, renamed_func, renamed_global}
+use Rattle.ir_numbering.specs.Renaming.{Renaming, renamed_loc, renamed_sym, renamed_ty, renamed_block, renamed_param, renamed_func, renamed_global, renamed_declare}
 use Rattle.ir_numbering.specs.Numbers.{renamed_named}
 use Rattle.inst_meaning.specs.declared.actions.Callee.{Callee}
 use Rattle.inst_meaning.specs.declared.actions.Callee.TheVariants.{Unknown}
@@ -48,6 +48,7 @@ pub record Renames (m other : ModuleParts) : Type 0 where
   pub loc_apart : (n : ℕ) → IsApart (loc n)
   pub types : other.types ≡ map (renamed_named outer) m.types
   pub globals : other.globals ≡ map (renamed_global outer) m.globals
+  pub declares : other.declares ≡ map (renamed_declare outer) m.declares
   pub count : length other.funcs ≡ length m.funcs
   pub funcs : (n : ℕ) → IsRenamedAt (record outer { loc = loc n }) (slice_get m.funcs n) (slice_get other.funcs n)
   pub names : (n : ℕ) → slice_get other.syms (outer.sym n) ≡ slice_get m.syms n

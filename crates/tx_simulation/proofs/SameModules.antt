@@ -10,14 +10,14 @@ use Rattle.std.proofs.lemmas.Option.{slice_get_cases, slice_get_within, slice_ge
 use Rattle.ir_core.specs.Module.{ModuleParts, FuncParts}
 use Rattle.ir_numbering.specs.declared.places.Place.{Place}
 use Rattle.ir_numbering.specs.declared.places.Place.TheVariants.{Local, Struct, Global}
-use Rattle.ir_numbering.specs.Places.{mentions_of_func, places_of_global}
+use Rattle.ir_numbering.specs.Places.{mentions_of_func, places_of_global, places_of_declare}
 use Rattle.ir_numbering.specs.Numbers.{places_of_named}
 use Rattle.ir_numbering.specs.Renaming.{Renaming}
 use Rattle.hard_ir.specs.Images.{Keeps, IsSameModule}
 use Rattle.src_meaning.specs.Races.{IsGood}
 use Rattle.src_meaning.specs.Runs.{source}
 use Rattle.tx_simulation.proofs.RenamedTypes.{IsApart}
-use Rattle.tx_simulation.proofs.RenamedAgain.{AllAt, AgreeAt, func-again, types-again, globals-again}
+use Rattle.tx_simulation.proofs.RenamedAgain.{AllAt, AgreeAt, func-again, types-again, globals-again, declares-again}
 use Rattle.tx_simulation.proofs.Renames.{Renames, IsRenamedAt}
 use Rattle.tx_simulation.proofs.RenamedRuns.{sources, outputs, goods}
 use Rattle.tx_simulation.proofs.Blocks.{same-place}
@@ -104,6 +104,7 @@ pub record AreNumbered (m : ModuleParts) : Type 0 where
   pub names : (n : ℕ) (f : FuncParts) → slice_get m.funcs n ≡ Some f → AreDistinct f.names
   pub types : AllAt (IsOuter m) (flat_map places_of_named m.types)
   pub globals : AllAt (IsOuter m) (flat_map places_of_global m.globals)
+  pub declares : AllAt (IsOuter m) (flat_map places_of_declare m.declares)
   pub funcs : (n : ℕ) (f : FuncParts) → slice_get m.funcs n ≡ Some f → AllAt (IsWithin m f.names) (mentions_of_func f)
 
 all-so : (P Q : Place → Type 0) → ((place : Place) → P place → Q place) → (places : List Place) → AllAt P places → AllAt Q places
@@ -172,6 +173,7 @@ module _ (m other : ModuleParts) (same : IsSameModule m other) (numbered : AreNu
     loc_apart = λ n. (in-func n).apart;
     types = same.types ∙ types-again same.outer outer_on m.types (all-so (IsOuter m) (AgreeAt same.outer outer_on) agree-out (flat_map places_of_named m.types) numbered.types);
     globals = same.globals ∙ globals-again same.outer outer_on m.globals (all-so (IsOuter m) (AgreeAt same.outer outer_on) agree-out (flat_map places_of_global m.globals) numbered.globals);
+    declares = same.declares ∙ declares-again same.outer outer_on m.declares (all-so (IsOuter m) (AgreeAt same.outer outer_on) agree-out (flat_map places_of_declare m.declares) numbered.declares);
     count = same.count;
     funcs = λ n. (in-func n).is;
     names = on-names m.syms other.syms same.outer.sym same.syms;
