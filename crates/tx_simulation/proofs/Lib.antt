@@ -33,3 +33,4 @@ pub mod RenamedAgain
 pub mod SameModules
 pub mod RenamedPlaces
 pub mod NumberedModules
+pub mod RenamedLines

@@ -43,10 +43,10 @@ module _ (r : Renaming) where
   abbrev pub AreMoved : List Place → List Place → Type 0
   AreMoved renamed places = renamed ≡ moved places
 
-  both : (xs ys renamed_xs renamed_ys : List Place) → AreMoved renamed_xs xs → AreMoved renamed_ys ys → AreMoved (renamed_xs ++ renamed_ys) (xs ++ ys)
+  pub both : (xs ys renamed_xs renamed_ys : List Place) → AreMoved renamed_xs xs → AreMoved renamed_ys ys → AreMoved (renamed_xs ++ renamed_ys) (xs ++ ys)
   both xs ys renamed_xs renamed_ys e f = rw (e, f) (flip (map-append (renamed_place r) xs ys))
 
-  three : (xs ys zs renamed_xs renamed_ys renamed_zs : List Place) → AreMoved renamed_xs xs → AreMoved renamed_ys ys → AreMoved renamed_zs zs
+  pub three : (xs ys zs renamed_xs renamed_ys renamed_zs : List Place) → AreMoved renamed_xs xs → AreMoved renamed_ys ys → AreMoved renamed_zs zs
       → AreMoved ((renamed_xs ++ renamed_ys) ++ renamed_zs) ((xs ++ ys) ++ zs)
   three xs ys zs renamed_xs renamed_ys renamed_zs e f g = both (xs ++ ys) zs (renamed_xs ++ renamed_ys) renamed_zs (both xs ys renamed_xs renamed_ys e f) g
 

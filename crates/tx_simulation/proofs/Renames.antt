@@ -116,7 +116,7 @@ module _ (m other : ModuleParts) (r : Renames m other) where
 
   -- ---- functions
 
-  func-at : (n : ℕ) (f g : FuncParts) → slice_get m.funcs n ≡ Some f → slice_get other.funcs n ≡ Some g → g ≡ record (renamed_func (inside n) f) { names = g.names }
+  pub func-at : (n : ℕ) (f g : FuncParts) → slice_get m.funcs n ≡ Some f → slice_get other.funcs n ≡ Some g → g ≡ record (renamed_func (inside n) f) { names = g.names }
   func-at n f g at there = subst (λ (o : Option FuncParts). IsRenamedAt (inside n) o (Some g)) at (subst (λ (o : Option FuncParts). IsRenamedAt (inside n) (slice_get m.funcs n) o) there (r.funcs n))
 
   pub blocks-same : (n : ℕ) → blocks_at other.funcs n ≡ map (renamed_block (inside n)) (blocks_at m.funcs n)
