@@ -34,3 +34,4 @@ pub mod SameModules
 pub mod RenamedPlaces
 pub mod NumberedModules
 pub mod RenamedLines
+pub mod RenamedLimits
