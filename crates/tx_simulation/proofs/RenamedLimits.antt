@@ -24,14 +24,14 @@ use Rattle.ir_layout.specs.Memory.{globals_start, span_at, end_of}
 use Rattle.ir_layout.specs.WrittenTypes.{types_in_val, init_step, types_in_init, types_in_global, types_in_declare, types_in_arg, types_in_arm, types_in_index, types_in_option, types_in_inst, types_in_head}
 use Rattle.ir_layout.specs.declared.limits.LimitKind.{LimitKind}
 use Rattle.ir_layout.specs.declared.limits.LimitKind.TheVariants.{Globals, Params, Registers}
-use Rattle.ir_lines.specs.Lines.{Line, TypeLine, GlobalLine, DeclareLine, HeadLine, BlockLine, InstLine, first_told}
+use Rattle.ir_lines.specs.Lines.{Line, TypeLine, GlobalLine, DeclareLine, HeadLine, BlockLine, InstLine, code_lines, first_told}
 use Rattle.ir_check.specs.CodeLimits.{over, limit_in, limit_text, broken_limit}
 use Rattle.ir_check.proofs.ModuleLines.{neither, no-image}
-use Rattle.ir_numbering.specs.Renaming.{Renaming, renamed_ty, renamed_sym, renamed_val, renamed_gep, renamed_args, renamed_arms, renamed_index, renamed_option, renamed_init_step, renamed_init, renamed_inst, renamed_param, renamed_global}
+use Rattle.ir_numbering.specs.Renaming.{Renaming, renamed_ty, renamed_sym, renamed_val, renamed_gep, renamed_args, renamed_arms, renamed_index, renamed_option, renamed_init_step, renamed_init, renamed_inst, renamed_param, renamed_global, renamed_declare}
 use Rattle.ir_numbering.specs.Numbers.{renamed_named}
 use Rattle.tx_simulation.proofs.RenamedTypes.{IsApart, limit-same, size-same}
 use Rattle.tx_simulation.proofs.Renames.{Renames, inside}
-use Rattle.tx_simulation.proofs.RenamedLines.{in_, names_of_func, renamed_line, code-same, none-told}
+use Rattle.tx_simulation.proofs.RenamedLines.{in_, names_of_func, func_by, renamed_line, code-same, none-told}
 
 -- ---- the types that are written
 
@@ -142,3 +142,70 @@ module _ (r : Renaming) where
     pub global-limit : (taken : ℕ) (global : GlobalVar) → limit_of_global others taken (renamed_global r global) ≡ limit_of_global types taken global
     global-limit taken global =
         rw (size-same r apart types global.ty, ap (λ (ts : List Ty). limit_among others (renamed_ty r global.ty ∷ ts)) (init-types global.init) ∙ among-same (types_in_global global)) refl
+
+-- ---- modules
+
+neither-told : {A : Type 0} (x y : Option A) → x ≡ None → y ≡ None → option_or x y ≡ None
+neither-told x y e f = rw e f
+
+no-place : (place : List ℕ) (o : Option LimitKind) → placed place o ≡ None → o ≡ None
+no-place place None e = refl
+no-place place (Some kind) e = cc
+
+module _ (m other : ModuleParts) (r : Renames m other) where
+  types-keep : (types : List (TypeId × Ty)) → first_of_types m types ≡ None → first_of_types other (map (renamed_named r.outer) types) ≡ None
+  types-keep [] e = refl
+  types-keep (named ∷ types) e =
+      let parts = neither (placed (type_place m named.0) (limit_of m.types named.1)) (first_of_types m types) e in
+      let kept : limit_of other.types (renamed_ty r.outer named.1) ≡ None = ap (λ (ts : List (TypeId × Ty)). limit_of ts (renamed_ty r.outer named.1)) r.types ∙ limit-same r.outer r.type_apart m.types named.1 ∙ no-place (type_place m named.0) (limit_of m.types named.1) parts.0 in
+      rw kept (types-keep types parts.1)
+
+  globals-keep : (taken : ℕ) (globals : List GlobalVar) → first_of_globals m taken globals ≡ None → first_of_globals other taken (map (renamed_global r.outer) globals) ≡ None
+  globals-keep taken [] e = refl
+  globals-keep taken (global ∷ globals) e =
+      let parts = neither (placed (global_place m global) (limit_of_global m.types taken global)) (first_of_globals m (end_of (span_at m.types taken global)) globals) e in
+      let kept : limit_of_global other.types taken (renamed_global r.outer global) ≡ None = ap (λ (ts : List (TypeId × Ty)). limit_of_global ts taken (renamed_global r.outer global)) r.types ∙ global-limit r.outer r.type_apart m.types taken global ∙ no-place (global_place m global) (limit_of_global m.types taken global) parts.0 in
+      let further : end_of (span_at other.types taken (renamed_global r.outer global)) ≡ end_of (span_at m.types taken global) = ap (λ (ts : List (TypeId × Ty)). end_of (span_at ts taken (renamed_global r.outer global))) r.types ∙ ap (λ (size : ℕ). (span_at m.types taken global).start + size) (size-same r.outer r.type_apart m.types global.ty) in
+      rw kept (ap (λ (n : ℕ). first_of_globals other n (map (renamed_global r.outer) globals)) further ∙ globals-keep (end_of (span_at m.types taken global)) globals parts.1)
+
+  first-keeps : first_limit m ≡ None → first_limit other ≡ None
+  first-keeps e =
+      let parts = neither (first_of_types m m.types) (first_of_globals m globals_start m.globals) e in
+      let types : first_of_types other other.types ≡ None = ap (first_of_types other) r.types ∙ types-keep m.types parts.0 in
+      rw types (ap (first_of_globals other globals_start) r.globals ∙ globals-keep globals_start m.globals parts.1)
+
+  -- no table of a function is too long
+  abbrev pub AreFew : Type 0
+  AreFew = (n : ℕ) → over 65536 (length (names_of_func m other r n)) Registers ≡ None
+
+  module _ (few : AreFew) where
+    heads : (n : ℕ) (params : List (Ty × Loc)) → map (λ (param : Ty × Loc). param.0) (map (renamed_param (in_ m other r n)) params) ≡ map (renamed_ty (in_ m other r n)) (map (λ (param : Ty × Loc). param.0) params)
+    heads n [] = refl
+    heads n (param ∷ params) = ap (λ (rest : List Ty). renamed_ty (in_ m other r n) param.0 ∷ rest) (heads n params)
+
+    line-keeps : (line : Line) → limit_in m.types line ≡ None → limit_in other.types (renamed_line m other r line) ≡ None
+    line-keeps (TypeLine named) e = refl
+    line-keeps (GlobalLine global) e = refl
+    line-keeps (DeclareLine declare) e =
+        let parts = neither (limit_among m.types (types_in_declare declare)) (over 32 (length declare.params) Params) e in
+        neither-told _ _
+        (ap (λ (ts : List (TypeId × Ty)). limit_among ts (types_in_declare (renamed_declare (in_ m other r 0) declare))) r.types ∙ among-same r.outer r.type_apart m.types (types_in_declare declare) ∙ parts.0)
+        (ap (λ (n : ℕ). over 32 n Params) (length-map declare.params (renamed_ty (in_ m other r 0))) ∙ parts.1)
+    line-keeps (HeadLine n f) e =
+        let parts = neither (limit_among m.types (types_in_head f)) (option_or (over 32 (length f.params) Params) (over 65536 (length f.names) Registers)) e in
+        let rest = neither (over 32 (length f.params) Params) (over 65536 (length f.names) Registers) parts.1 in
+        let written : limit_among (map (renamed_named r.outer) m.types) (renamed_ty (in_ m other r n) f.ret ∷ map (λ (param : Ty × Loc). param.0) (map (renamed_param (in_ m other r n)) f.params)) ≡ None =
+        ap (λ (ts : List Ty). limit_among (map (renamed_named r.outer) m.types) (renamed_ty (in_ m other r n) f.ret ∷ ts)) (heads n f.params) ∙ among-same (in_ m other r n) r.type_apart m.types (types_in_head f) ∙ parts.0 in
+        neither-told _ _ (ap (λ (ts : List (TypeId × Ty)). limit_among ts (types_in_head (func_by m other r n f))) r.types ∙ written)
+        (neither-told _ _ (ap (λ (k : ℕ). over 32 k Params) (length-map f.params (renamed_param (in_ m other r n))) ∙ rest.0) (few n))
+    line-keeps (BlockLine n f b block) e = refl
+    line-keeps (InstLine n f b i inst) e =
+        ap (λ (ts : List (TypeId × Ty)). limit_among ts (types_in_inst (renamed_inst (in_ m other r n) inst))) r.types
+        ∙ ap (limit_among (map (renamed_named r.outer) m.types)) (inst-types (in_ m other r n) inst)
+        ∙ among-same (in_ m other r n) r.type_apart m.types (types_in_inst inst) ∙ e
+
+    pub limits-same : broken_limit m ≡ None → broken_limit other ≡ None
+    limits-same e =
+        let parts = neither (first_limit m) (option_map (limit_text m) (first_told (limit_in m.types) (code_lines m))) e in
+        let told : first_told (limit_in other.types) (code_lines other) ≡ None = ap (first_told (limit_in other.types)) (code-same m other r) ∙ none-told m other r (limit_in m.types) (limit_in other.types) line-keeps (code_lines m) (no-image (limit_text m) _ parts.1) in
+        rw (first-keeps parts.0, told) refl
