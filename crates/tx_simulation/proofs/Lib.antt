@@ -35,3 +35,4 @@ pub mod RenamedPlaces
 pub mod NumberedModules
 pub mod RenamedLines
 pub mod RenamedLimits
+pub mod RenamedFlow

@@ -62,11 +62,11 @@ module _ (r : Renaming) (apart : IsApart r.loc) where
 
   -- ---- blocks
 
-  numbers-same : (n : ℕ) (blocks : List Block) (label : Loc) → numbered_from n (map (renamed_block r) blocks) (renamed_loc r label) ≡ numbered_from n blocks label
+  pub numbers-same : (n : ℕ) (blocks : List Block) (label : Loc) → numbered_from n (map (renamed_block r) blocks) (renamed_loc r label) ≡ numbered_from n blocks label
   numbers-same n [] label = refl
   numbers-same n (block ∷ blocks) label = rw (numbers-same (n + 1) blocks label, same-test r.loc apart block.label.0 label.0) refl
 
-  phi-kind : (inst : Inst) → is_phi (renamed_inst r inst) ≡ is_phi inst
+  pub phi-kind : (inst : Inst) → is_phi (renamed_inst r inst) ≡ is_phi inst
   phi-kind (insts.Phi dst ty arms) = refl
   phi-kind inst = refl
 

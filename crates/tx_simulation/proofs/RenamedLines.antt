@@ -40,6 +40,11 @@ pub any-images : {A B : Type 0} (f : A → B) (p : A → Bool) (q : B → Bool) 
 any-images f p q same [] = refl
 any-images f p q same (x ∷ xs) = rw (same x, any-images f p q same xs) refl
 
+pub result-same : (q : Renaming) (inst : Inst) → result_of (renamed_inst q inst) ≡ option_map (renamed_loc q) (result_of inst)
+result-same q (insts.Call None ret callee args) = refl
+result-same q (insts.Call (Some dst) ret callee args) = refl
+result-same q inst = refl
+
 module _ (m other : ModuleParts) (r : Renames m other) where
   abbrev pub in_ : ℕ → Renaming
   in_ n = inside m other r n
@@ -155,11 +160,6 @@ module _ (m other : ModuleParts) (r : Renames m other) where
       by_func true e = let same : n ≡ k = eqb-true n k e in
           ap (λ (c : Bool). nat_eq n k && c) (ap (λ (j : ℕ). nat_eq (r.loc n a.0) (r.loc j b.0)) (flip same) ∙ same-test (r.loc n) (r.loc_apart n) a.0 b.0)
       by_func false e = rw e refl
-
-  result-same : (q : Renaming) (inst : Inst) → result_of (renamed_inst q inst) ≡ option_map (renamed_loc q) (result_of inst)
-  result-same q (insts.Call None ret callee args) = refl
-  result-same q (insts.Call (Some dst) ret callee args) = refl
-  result-same q inst = refl
 
   defined-same : (line : Line) → defined_in (renamed_line line) ≡ map renamed_name (defined_in line)
   defined-same (TypeLine named) = refl
