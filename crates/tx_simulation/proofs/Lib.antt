@@ -36,3 +36,4 @@ pub mod NumberedModules
 pub mod RenamedLines
 pub mod RenamedLimits
 pub mod RenamedFlow
+pub mod RenamedCalls

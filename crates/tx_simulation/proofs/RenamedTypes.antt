@@ -78,7 +78,7 @@ numbered_layer number (Ty-F.Array count element) = Ty-F.Array count element
 numbered_layer number (Ty-F.Struct parts) = Ty-F.Struct parts
 numbered_layer number (Ty-F.Named id) = Ty-F.Named (record { 0 = number id.0 })
 
-step-is : (number : ℕ → ℕ) (x : Ty-F Ty) → renamed_step number x ≡ roll-Ty (numbered_layer number x)
+pub step-is : (number : ℕ → ℕ) (x : Ty-F Ty) → renamed_step number x ≡ roll-Ty (numbered_layer number x)
 unfolding opened.roll-Ty denote.Hole.Carrier.roll
 step-is number Ty-F.Void = refl
 step-is number (Ty-F.Int w) = refl

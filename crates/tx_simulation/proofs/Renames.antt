@@ -145,7 +145,7 @@ module _ (m other : ModuleParts) (r : Renames m other) where
 
   -- ---- `@` names
 
-  name-same : (n : ℕ) → slice_index_or other.syms (r.outer.sym n) [] ≡ slice_index_or m.syms n []
+  pub name-same : (n : ℕ) → slice_index_or other.syms (r.outer.sym n) [] ≡ slice_index_or m.syms n []
   name-same n = flip (unwrap_or-slice_get other.syms (r.outer.sym n) []) ∙ ap (λ (o : Option (List ℕ)). unwrap_or o []) (r.names n) ∙ unwrap_or-slice_get m.syms n []
 
   numbered-same : (name : Sym) → numbered_function other (renamed_sym r.outer name) ≡ numbered_function m name
