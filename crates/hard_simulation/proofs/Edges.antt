@@ -46,18 +46,18 @@ pub data IsLanding (m : ModuleParts) (h : HardParts) (sides : Sides) (frame : So
   Landed : (other : Frame) → o ≡ Some other → IsFrame m h sides frame other → IsLanding m h sides frame o
 
 -- the edge along which a branch goes
-record Lands (l : LayoutParts) (blocks : List Block) (a : SourceFrame) (label : Loc) (frame : SourceFrame) : Type 0 where
-  from : Block
-  leaves : slice_get blocks a.block ≡ Some from
-  n : ℕ
-  number : number_of blocks label ≡ Some n
-  target : Block
-  there : slice_get blocks n ≡ Some target
-  words : List (Loc × ℕ)
-  taken : phi_words l a.registers from.label (phis_of target.insts) ≡ Some words
-  is : source.landed a n target words ≡ frame
+pub record Lands (l : LayoutParts) (blocks : List Block) (a : SourceFrame) (label : Loc) (frame : SourceFrame) : Type 0 where
+  pub from : Block
+  pub leaves : slice_get blocks a.block ≡ Some from
+  pub n : ℕ
+  pub number : number_of blocks label ≡ Some n
+  pub target : Block
+  pub there : slice_get blocks n ≡ Some target
+  pub words : List (Loc × ℕ)
+  pub taken : phi_words l a.registers from.label (phis_of target.insts) ≡ Some words
+  pub is : source.landed a n target words ≡ frame
 
-lands-of : (l : LayoutParts) (blocks : List Block) (a : SourceFrame) (label : Loc) (frame : SourceFrame)
+pub lands-of : (l : LayoutParts) (blocks : List Block) (a : SourceFrame) (label : Loc) (frame : SourceFrame)
     → source.jump_in l blocks a label ≡ Some frame → Lands l blocks a label frame
 lands-of l blocks a label frame e = by_from (slice_get blocks a.block) refl e
   where
@@ -86,7 +86,7 @@ lands-of l blocks a label frame e = by_from (slice_get blocks a.block) refl e
     by_from (Some from) x k = by_number from x (number_of blocks label) refl k
 
 -- no branch leads to the entry of a function
-never-enters : (m : ModuleParts) (n b i : ℕ) (f : FuncParts) (block entry : Block) (inst : Inst) (label : Loc) → IsAccepted m
+pub never-enters : (m : ModuleParts) (n b i : ℕ) (f : FuncParts) (block entry : Block) (inst : Inst) (label : Loc) → IsAccepted m
     → slice_get m.funcs n ≡ Some f
     → slice_get f.blocks b ≡ Some block → slice_get block.insts i ≡ Some inst → length block.insts ≡ suc i → IsIn label (labels_of inst)
     → number_of f.blocks label ≡ Some 0 → slice_get f.blocks 0 ≡ Some entry → ⊥

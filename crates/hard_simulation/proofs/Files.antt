@@ -100,7 +100,7 @@ untouched (word ∷ words) registers at n =
     neither true rest e = cc
     neither false rest e = (refl, e)
 
-names-alone : (params : List (Ty × Loc)) (words : List ℕ) (at : ℕ) → is_among at params ≡ false
+pub names-alone : (params : List (Ty × Loc)) (words : List ℕ) (at : ℕ) → is_among at params ≡ false
     → list_any (λ word. nat_eq word.0.0 at) (zip (map (λ param. param.1) params) words) ≡ false
 names-alone [] words at n = refl
 names-alone (param ∷ params) [] at n = refl

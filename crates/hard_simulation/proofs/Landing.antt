@@ -75,7 +75,7 @@ image-behind-phis body code (Next inst behind ticks rest e plain f image) = rw (
 -- ---- labels
 
 -- the blocks at a place have one label, or neither list has one there
-abbrev SameLabel : Option Block → Option HBlock → Type 0
+abbrev pub SameLabel : Option Block → Option HBlock → Type 0
 SameLabel None None = Unit {0}
 SameLabel (Some block) (Some hard) = hard.label ≡ block.label
 SameLabel block hard = ⊥
@@ -86,7 +86,7 @@ label-of-image copied (Some block) (Some hard) is = is.label
 label-of-image copied None (Some hard) is = absurd is
 label-of-image copied (Some block) None is = absurd is
 
-numbers-same : (n : ℕ) (hards : List HBlock) (blocks : List Block) (label : Loc)
+pub numbers-same : (n : ℕ) (hards : List HBlock) (blocks : List Block) (label : Loc)
     → ((b : ℕ) → SameLabel (slice_get blocks b) (slice_get hards b)) → numbered_from n (map labelled hards) label ≡ numbered_from n blocks label
 numbers-same n [] [] label same = refl
 numbers-same n [] (block ∷ blocks) label same = absurd (same 0)

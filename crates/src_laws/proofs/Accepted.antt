@@ -5,6 +5,7 @@ use Rattle.std.specs.List.{list_any}
 use Rattle.std.specs.Option.{option_or}
 use Rattle.std.proofs.lemmas.Grind.{flat_map-append}
 use Rattle.std.proofs.lemmas.List.Folds.{list_any-append}
+use Rattle.std.proofs.lemmas.Bool.{eq-eqb}
 use Rattle.ir_core.proofs.Lengths.{both_true}
 use Rattle.ir_core.specs.declared.values.Declare.{Declare}
 use Rattle.ir_core.specs.declared.instruction.Inst.{Inst}
@@ -12,9 +13,10 @@ use Rattle.ir_core.specs.declared.instruction.Block.{Block}
 use Rattle.ir_core.specs.Module.{ModuleParts, FuncParts}
 use Rattle.ir_lines.specs.declared.site.Site.{Site}
 use Rattle.ir_lines.specs.declared.site.Site.TheVariants.{Module}
+use Rattle.ir_lines.specs.declared.site.Site.TheVariants as sites
 use Rattle.ir_lines.specs.declared.site.Named.{Named}
 use Rattle.ir_lines.specs.declared.site.Named.TheVariants as names
-use Rattle.ir_lines.specs.Lines.{TypeLine, GlobalLine, DeclareLine, HeadLine, BlockLine, InstLine, site_of, inst_lines, funcs_lines, code_lines}
+use Rattle.ir_lines.specs.Lines.{TypeLine, GlobalLine, DeclareLine, HeadLine, BlockLine, InstLine, site_of, inst_lines, funcs_lines, code_lines, lines_of}
 use Rattle.ir_names.specs.Names.{same_name, definitions_in, definitions_of, definitions, first_again, duplicate}
 use Rattle.ir_calls.specs.Calls.{calls_keep, inst_keeps}
 use Rattle.ir_types.specs.Types.{types_keep}
@@ -143,3 +145,45 @@ declare-apart m n f declare accepted at here = by_test (nat_eq f.sym.0 declare.s
     by_test true e =
         let clash : true ≡ false = sym (any-in (same_name (names.Sym f.sym)) (names.Sym declare.sym) before is-declared e) ∙ fresh before written name alone is-written in
         cc
+
+-- of two definitions with one name both are the same one
+apart : (before : List Named) (defs : List (Site × Named)) (x y : Site × Named) (i j : ℕ) → first_again before defs ≡ None → slice_get defs i ≡ Some x
+    → slice_get defs j ≡ Some y → same_name x.1 y.1 ≡ true → same_name y.1 x.1 ≡ true → x ≡ y
+apart before [] x y i j e at there f g = absurd cc
+apart before (d ∷ defs) x y i j e at there f g = by_test (list_any (same_name d.1) before) refl i j at there (apart (before ++ d.1 ∷ []) defs x y)
+  where
+    later : (z : Site × Named) → IsIn z defs → first_again (before ++ d.1 ∷ []) defs ≡ None → same_name z.1 d.1 ≡ true → ⊥
+    later z h rest same =
+        let clash : true ≡ false = sym (any-in (same_name z.1) d.1 (before ++ d.1 ∷ []) (in-back d.1 before (d.1 ∷ []) (0, refl)) same) ∙ fresh (before ++ d.1 ∷ []) defs z rest h in cc
+
+    by_test : (b : Bool) → list_any (same_name d.1) before ≡ b → (i j : ℕ) → slice_get (d ∷ defs) i ≡ Some x → slice_get (d ∷ defs) j ≡ Some y
+        → ((k l : ℕ) → first_again (before ++ d.1 ∷ []) defs ≡ None → slice_get defs k ≡ Some x → slice_get defs l ≡ Some y → same_name x.1 y.1 ≡ true
+        → same_name y.1 x.1 ≡ true → x ≡ y)
+        → x ≡ y
+    by_test true h i j at there rest = absurd (let clash : Some d ≡ None = rw h at e in cc)
+    by_test false h zero zero at there rest = let one : d ≡ x = cc in let two : d ≡ y = cc in sym one ∙ two
+    by_test false h zero (suc l) at there rest =
+        let one : d ≡ x = cc in absurd (later y (l, there) (rw h at e) (ap (λ (z : Site × Named). same_name y.1 z.1) one ∙ g))
+    by_test false h (suc k) zero at there rest =
+        let one : d ≡ y = cc in absurd (later x (k, at) (rw h at e) (ap (λ (z : Site × Named). same_name x.1 z.1) one ∙ f))
+    by_test false h (suc k) (suc l) at there rest = rest k l (rw h at e) at there f g
+
+-- no two blocks of a function have one label
+pub labels-apart : (m : ModuleParts) (n a b : ℕ) (f : FuncParts) (x y : Block) → IsAccepted m → slice_get m.funcs n ≡ Some f → slice_get f.blocks a ≡ Some x
+    → slice_get f.blocks b ≡ Some y → x.label.0 ≡ y.label.0 → a ≡ b
+labels-apart m n a b f x y accepted at here there same =
+    let one : Site × Named = (sites.Block n a, names.Loc n x.label) in
+    let two : Site × Named = (sites.Block n b, names.Loc n y.label) in
+    let none : duplicate m ≡ None = no-image _ (duplicate m) (neither (duplicate_fault m) (option_or (unknown_fault m) (option_or (limit_fault m) (code_fault m))) accepted.lines).0 in
+    let first = line-defines a x here in
+    let second = line-defines b y there in
+    let is : one ≡ two = apart [] (definitions m) one two first.0 second.0 none first.1 second.1 (names-same x y same) (names-same y x (sym same)) in
+    let places : sites.Block n a ≡ sites.Block n b = ap (λ (d : Site × Named). d.0) is in cc
+  where
+    names-same : (x y : Block) → x.label.0 ≡ y.label.0 → same_name (names.Loc n x.label) (names.Loc n y.label) ≡ true
+    names-same x y e = rw (eq-eqb n n refl) (eq-eqb x.label.0 y.label.0 e)
+
+    line-defines : (b : ℕ) (block : Block) → slice_get f.blocks b ≡ Some block → let d : Site × Named = (sites.Block n b, names.Loc n block.label) in IsIn d (definitions m)
+    line-defines b block there =
+        let line = of-code m (BlockLine n f b block) (in-block m n b f block (BlockLine n f b block) at there (0, refl)) in
+        in-flat definitions_in (BlockLine n f b block) (sites.Block n b, names.Loc n block.label) (lines_of m) line (0, refl)

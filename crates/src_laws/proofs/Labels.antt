@@ -25,7 +25,7 @@ pub record IsLabelled (blocks : List Block) (n : ℕ) (label : Loc) (k : ℕ) : 
   pub number : k ≡ n + place
   pub same : block.label.0 ≡ label.0
 
-labelled : (n : ℕ) (blocks : List Block) (label : Loc) (k : ℕ) → numbered_from n blocks label ≡ Some k → IsLabelled blocks n label k
+pub labelled : (n : ℕ) (blocks : List Block) (label : Loc) (k : ℕ) → numbered_from n blocks label ≡ Some k → IsLabelled blocks n label k
 labelled n [] label k e = absurd cc
 labelled n (block ∷ blocks) label k e =
     by_rest (numbered_from (n + 1) blocks label) refl (nat_eq block.label.0 label.0) refl (labelled (n + 1) blocks label)
