@@ -38,7 +38,8 @@ use Rattle.tx_simulation.proofs.Reading.{SameIn, AreSameIn, same-in-more}
 use Rattle.tx_simulation.proofs.Lines.{never-both}
 use Rattle.tx_simulation.proofs.Points.{names_at, past_code, is_edged, AgreeIn, IfTrue, checks_onto, checks_passed, At, Checking}
 use Rattle.tx_simulation.proofs.Scene.{Scene, InPlace, in-place, here, now, seen, AfterTurn, somewhere, not-faulty, reads, by-head, code-after}
-use Rattle.tx_simulation.proofs.Silent.{past-after, named-at, PointIn, passes, counts, cuts, begins-at, AsksOf, compares, differ-hurt, missing-master, missing-shadow, master-same}
+use Rattle.tx_simulation.proofs.Named.{names-are, register-named, read-in}
+use Rattle.tx_simulation.proofs.Silent.{past-after, PointIn, passes, counts, cuts, begins-at, AsksOf, compares, differ-hurt, missing-master, missing-shadow, master-same}
 
 -- ---- what is checked
 
@@ -78,8 +79,8 @@ module _ (mode : Mode) (c : Scene mode) where
     pub named-read : (reg : Loc) → IsIn reg (regs_in inst) → names_at c.m c.a.frame.function reg.0 ≡ true
     named-read reg is =
         let place : InPlace mode c inst = in-place mode c inst after left in
-        named-at c.m c.a.frame.function c.a.frame.block c.a.frame.index place.f place.block inst reg place.stands place.there place.at
-        (in-back reg _ _ (in-front reg (regs_in inst) _ is))
+        names-are c.m c.a.frame.function place.f reg place.stands
+        ∙ register-named place.f c.a.frame.block c.a.frame.index place.block inst reg place.there place.at (read-in inst reg is)
 
     pub word-read : (reg : Loc) → IsIn reg (regs_in inst) → is_some (get c.a.frame.registers reg.0) ≡ true
     word-read reg is = (reads mode c inst after left).operands is.0 reg is.1
@@ -203,7 +204,7 @@ module _ (mode : Mode) (c : Scene mode) where
     rows-at (Phi phi after first is rows) left code =
         absurd (not-faulty mode c phi after (left ∙ first) Unreachable (phi-faults (layout_of c.m) (callees_of c.m) c.a.frame.registers phi is))
     rows-at (Next inst after [] rest first plain list rows) left code =
-        checks-at inst after rest (past_code c.h c.b.frame) (left ∙ first) rows [] (checked_before inst) (code ∙ list ∙ ?) refl refl (if-none _)
+        checks-at inst after rest (past_code c.h c.b.frame) (left ∙ first) rows [] (checked_before inst) (code ∙ list) refl refl (if-none _)
       where
         if-none : (b : Bool) → IfTrue b (AreSameIn c.b.frame.masters c.a.frame.registers [])
         if-none true = tt

@@ -5,10 +5,7 @@ use Rattle.std.specs.List.{list_any, filter_map, flat_map}
 use Rattle.std.specs.Option.{option_map, option_map_or, option_and_then}
 use Rattle.std.proofs.lemmas.Bool.{eqb-true, eq-eqb}
 use Rattle.std.proofs.lemmas.List.Elements.{filter_map-append}
-use Rattle.ir_core.specs.declared.types.Ty as opened
 use Rattle.ir_core.specs.declared.types.Ty.TheVariants as types
-use Rattle.ir_core.specs.declared.types.Ty.TheOpen.{Ty-F}
-use Rattle.ir_core.specs.declared.types.Ty.TheViews.{out-roll-Ty}
 use Rattle.ir_core.specs.declared.types.Loc.{Loc}
 use Rattle.ir_core.specs.declared.types.Width.TheVariants.{W1}
 use Rattle.ir_core.specs.declared.values.Val.{Val}
@@ -35,6 +32,7 @@ use Rattle.hard_ir.specs.Image.{phi_image}
 use Rattle.hard_ir.specs.Images.{phis_for}
 use Rattle.hard_frames.specs.Frames.{phi_on, phis_on}
 use Rattle.hard_simulation.proofs.Landing.{phis-on-side}
+use Rattle.tx_simulation.proofs.Reading.{bit-width}
 
 -- ---- phis one after another
 
@@ -185,10 +183,6 @@ edge-words l file at side from blocks (Some name) word arm e =
     ∙ ap (λ (o : Option ℕ). phi_words_with (option_map (λ (n : ℕ). (name, n)) o) (Some [])) e
 
 -- a word of one bit
-pub bit-width : width_of (types.Int W1) ≡ Some W1
-unfolding opened.roll-Ty denote.Hole.Carrier.roll
-bit-width = ap width_step (out-roll-Ty (Ty-F.Int W1))
-
 pub bit-word : (l : LayoutParts) (file : List (Option ℕ)) (value : Val) → typed_word l file (types.Int W1) value ≡ word_at l file W1 value
 bit-word l file value = ap (option_and_then (λ w. word_at l file w value)) bit-width
 

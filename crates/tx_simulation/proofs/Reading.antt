@@ -7,7 +7,8 @@ use Rattle.ir_core.specs.declared.types.Width.{Width}
 use Rattle.ir_core.specs.declared.types.Width.TheVariants.{W1, W8, W16, W32, W64}
 use Rattle.ir_core.specs.declared.types.Ty.{Ty}
 use Rattle.ir_core.specs.declared.types.Ty.TheOpen.{Ty-F}
-use Rattle.ir_core.specs.declared.types.Ty.TheViews.{out-Ty}
+use Rattle.ir_core.specs.declared.types.Ty.TheViews.{out-Ty, out-roll-Ty}
+use Rattle.ir_core.specs.declared.types.Ty as opened
 use Rattle.ir_core.specs.declared.types.Ty.TheVariants as types
 use Rattle.ir_core.specs.declared.types.Loc.{Loc}
 use Rattle.ir_core.specs.declared.values.Val.{Val}
@@ -140,6 +141,15 @@ module _ (l : LayoutParts) (a b : List (Option ℕ)) where
 
 -- ---- the same words of types
 
+pointer-width : width_of types.Ptr ≡ Some W64
+unfolding opened.roll-Ty denote.Hole.Carrier.roll
+pointer-width = ap width_step (out-roll-Ty Ty-F.Ptr)
+
+-- a word of one bit
+pub bit-width : width_of (types.Int W1) ≡ Some W1
+unfolding opened.roll-Ty denote.Hole.Carrier.roll
+bit-width = ap width_step (out-roll-Ty (Ty-F.Int W1))
+
 -- the word of a register, as one of a type
 abbrev pub word_in : Ty → List (Option ℕ) → Loc → Option ℕ
 word_in ty file reg = option_map (λ n. n % 2 ^ register_bits ty) (get file reg.0)
@@ -214,7 +224,7 @@ module _ (l : LayoutParts) (a b : List (Option ℕ)) where
   typed-alike operand h = typed-step operand.0 operand.1 (width_of operand.0) refl h
 
   pointer-alike : (ptr : Val) → SameIn a b (types.Ptr, ptr) → word_at l a W64 ptr ≡ word_at l b W64 ptr
-  pointer-alike ptr h = at-width types.Ptr ptr W64 (bits-of types.Ptr W64 refl) h
+  pointer-alike ptr h = at-width types.Ptr ptr W64 (bits-of types.Ptr W64 pointer-width) h
 
   words-alike : (arguments : List (Ty × Val)) → AreSameIn a b arguments → argument_words l a arguments ≡ argument_words l b arguments
   words-alike [] h = refl
@@ -300,7 +310,7 @@ module _ (l : LayoutParts) (a b : List (Option ℕ)) where
   acts-alike callees (insts.Br to) once h = refl
   acts-alike callees (insts.CondBr condition on_true on_false) once h =
       ap (λ (o : Option ℕ). on_word o (λ c. Jump (if c == 1 then on_true else on_false)))
-      (at-width (types.Int W1) condition W1 (bits-of (types.Int W1) W1 refl) h.0)
+      (at-width (types.Int W1) condition W1 (bits-of (types.Int W1) W1 bit-width) h.0)
   acts-alike callees (insts.Switch ty on default cases) once h = rw (typed-alike (ty, on) h.0) refl
   acts-alike callees (insts.Ret ty None) once h = refl
   acts-alike callees (insts.Ret ty (Some value)) once h = rw (typed-alike (ty, value) h.0) refl

@@ -20,6 +20,7 @@ use Rattle.ir_core.specs.Module.{ModuleParts, FuncParts}
 use Rattle.ir_core.specs.Instructions.{is_phi}
 use Rattle.ir_flow.specs.Uses.{regs_in}
 use Rattle.ir_check.proofs.Members.{IsIn, in-front, in-back, in-flat, next-in, any-in}
+use Rattle.mem_image.specs.Bytes.{Memory}
 use Rattle.tx_runtime.specs.Words.{tries, threshold, last_count}
 use Rattle.rtm_core.specs.Footprint.{nothing_touched, seen_through, written_by}
 use Rattle.inst_meaning.specs.declared.actions.Cause.TheVariants.{Unreachable}
@@ -71,17 +72,6 @@ pub past-after : (h : HardParts) (frame : Frame) (inst : HInst) (rest : List HIn
 past-after h frame inst rest e =
     ap reverse (take-next (list_at (blocks_at h frame.function) frame.block) frame.index inst rest e)
     ∙ reverse-append (take frame.index (list_at (blocks_at h frame.function) frame.block)) (inst ∷ [])
-
--- ---- names
-
--- a register of an instruction of a function is a name of it
-pub named-at : (m : ModuleParts) (n b i : ℕ) (f : FuncParts) (block : Block) (inst : Inst) (reg : Loc) → slice_get m.funcs n ≡ Some f
-    → slice_get f.blocks b ≡ Some block → slice_get block.insts i ≡ Some inst → IsIn reg (registers_of inst) → names_at m n reg.0 ≡ true
-named-at m n b i f block inst reg at there stands is =
-    ap (λ (o : Option FuncParts). option_map_or (λ f. is_named f (record { 0 = reg.0 })) o false) at
-    ∙ any-in (λ name. nat_eq name.0 reg.0) reg (names_of f)
-    (in-back reg _ _ (in-flat names_in block reg f.blocks (b, there)
-    (next-in reg block.label _ (in-flat registers_of inst reg block.insts (i, stands) is)))) (eq-eqb reg.0 reg.0 refl)
 
 -- ---- marks of transactions, and ticks
 
