@@ -38,7 +38,7 @@ use Rattle.tx_simulation.proofs.Holds.{Holds, Runs, Over, IsOver, no_claim, map-
 use Rattle.tx_simulation.proofs.Commits.{is-empty, committed_source, committed_worker, committed-facts}
 
 -- memory that stays is rested on
-rested-same : (mem : Memory) (mode : Mode) (next : Option Action) → IsRested mode next (λ line. ⊥) mem mem
+pub rested-same : (mem : Memory) (mode : Mode) (next : Option Action) → IsRested mode next (λ line. ⊥) mem mem
 rested-same mem (Free plain) next = record { places = refl; words = λ place valid rests. refl }
 rested-same mem (Inside tx) next = λ line p q. absurd p
 

@@ -40,3 +40,4 @@ pub mod RenamedFlow
 pub mod RenamedCalls
 pub mod Silent
 pub mod Checking
+pub mod Quiet
