@@ -19,9 +19,10 @@ use Rattle.ir_calls.specs.declared.externals.External.TheVariants.{PthreadCreate
 use Rattle.inst_meaning.specs.Registers.{get}
 use Rattle.inst_meaning.specs.declared.actions.Callee.{Callee}
 use Rattle.inst_meaning.specs.declared.actions.Callee.TheVariants.{Defined, Outside, Unknown}
+use Rattle.inst_meaning.specs.declared.actions.Cause.{Cause}
 use Rattle.inst_meaning.specs.declared.actions.Cause.TheVariants.{Unreachable}
 use Rattle.inst_meaning.specs.declared.actions.Action.{Action}
-use Rattle.inst_meaning.specs.declared.actions.Action.TheVariants.{Assign, Fault}
+use Rattle.inst_meaning.specs.declared.actions.Action.TheVariants.{Assign, Reserve, Read, Write, Update, Pass, Jump, Call, Ask, Create, Join, Exit, Return, Fault}
 use Rattle.inst_meaning.specs.Operands.{word_of, argument_words}
 use Rattle.ir_core.specs.Instructions.{is_phi}
 use Rattle.inst_meaning.specs.Action.{on_word, on_width, operated, inner_pointer, creating, asking, outside, calling, action_of, destination}
@@ -173,6 +174,27 @@ pub doubled-assigns : (l : LayoutParts) (callees : List Callee) (registers : Lis
     → IsDefined (action_of l callees registers inst) → (word : ℕ) × (action_of l callees registers inst ≡ Assign word)
 doubled-assigns l callees registers inst doubled is = (action-assigns l callees registers inst doubled).assigns is
 
+-- an action can be done, or is a fault
+pub data CanBe (action : Action) : Type 0 where
+  Done : IsDefined action → CanBe action
+  Faulty : (cause : Cause) → action ≡ Fault cause → CanBe action
+
+pub can-be : (action : Action) → CanBe action
+can-be (Fault cause) = Faulty cause refl
+can-be (Assign n) = Done tt
+can-be (Reserve size) = Done tt
+can-be (Read place atomic) = Done tt
+can-be (Write place n atomic) = Done tt
+can-be (Update place update) = Done tt
+can-be Pass = Done tt
+can-be (Jump label) = Done tt
+can-be (Call n words) = Done tt
+can-be (Ask request) = Done tt
+can-be (Create address n argument) = Done tt
+can-be (Join other) = Done tt
+can-be (Exit code) = Done tt
+can-be (Return n) = Done tt
+
 -- ---- where results go
 
 pub doubled-destination : (inst : Inst) → is_doubled inst ≡ true → (dst : Loc) × (destination inst ≡ Some dst)
@@ -207,6 +229,10 @@ unflagged-action l callees registers inst is = refl
 pub unflagged-destination : (inst : Inst) → destination (unflagged inst) ≡ destination inst
 unflagged-destination (insts.Bin dst op flags w a b) = refl
 unflagged-destination inst = refl
+
+pub unflagged-doubled : (inst : Inst) → is_doubled inst ≡ true → is_doubled (unflagged inst) ≡ true
+unflagged-doubled (insts.Bin dst op flags w a b) doubled = refl
+unflagged-doubled inst doubled = doubled
 
 -- ---- images
 

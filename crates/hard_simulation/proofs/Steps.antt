@@ -56,7 +56,7 @@ use Rattle.hard_machine.specs.Step as hard
 use Rattle.hard_simulation.specs.Image.{IsImage, Image, Over, Marked as MarkedImage, Phi, Next, ticks_onto, checks_onto, copies_onto}
 use Rattle.hard_simulation.proofs.Sides.{Sides, On, IsHurt, on-map, hurt-if, hurt-both, either-on}
 use Rattle.hard_simulation.proofs.Files.{AgreeBut, AreFresh, first-among, fresh-rest, copied-one, but-none}
-use Rattle.hard_simulation.proofs.Instructions.{AreSame, same-more, acts-alike, doubled-assigns, doubled-destination, single-destination, unflagged-action, unflagged-destination, flow-doubled, flow-single, phi-faults, checked-reads}
+use Rattle.hard_simulation.proofs.Instructions.{CanBe, Done, Faulty, can-be, unflagged-doubled, AreSame, same-more, acts-alike, doubled-assigns, doubled-destination, single-destination, unflagged-action, unflagged-destination, flow-doubled, flow-single, phi-faults, checked-reads}
 use Rattle.hard_simulation.proofs.Headed.{heads-layout, heads-callees}
 use Rattle.hard_simulation.proofs.Entries.{drop-suc, get-drop, get-drop-none}
 use Rattle.hard_simulation.proofs.Edges.{lands}
@@ -66,31 +66,6 @@ use Rattle.hard_simulation.proofs.Effects as effects
 use Rattle.hard_simulation.proofs.Effects.{on_master, in_source, IsReady}
 
 -- ---- actions that are done on each side
-
-pub unflagged-doubled : (inst : Inst) → is_doubled inst ≡ true → is_doubled (unflagged inst) ≡ true
-unflagged-doubled (insts.Bin dst op flags w a b) doubled = refl
-unflagged-doubled inst doubled = doubled
-
--- an action can be done, or is a fault
-data CanBe (action : Action) : Type 0 where
-  Done : IsDefined action → CanBe action
-  Faulty : (cause : Cause) → action ≡ Fault cause → CanBe action
-
-can-be : (action : Action) → CanBe action
-can-be (Fault cause) = Faulty cause refl
-can-be (Assign n) = Done tt
-can-be (Reserve size) = Done tt
-can-be (Read place atomic) = Done tt
-can-be (Write place n atomic) = Done tt
-can-be (Update place update) = Done tt
-can-be Pass = Done tt
-can-be (Jump label) = Done tt
-can-be (Call n words) = Done tt
-can-be (Ask request) = Done tt
-can-be (Create address n argument) = Done tt
-can-be (Join other) = Done tt
-can-be (Exit code) = Done tt
-can-be (Return n) = Done tt
 
 -- where the source assigns a word, a side does too, the same where it is known; or it faults, and is hurt
 data Gives (sides : Sides) (side : Side) (word : ℕ) (known : Type 0) (action : Action) : Type 0 where

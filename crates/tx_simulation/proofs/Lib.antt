@@ -41,3 +41,4 @@ pub mod RenamedCalls
 pub mod Silent
 pub mod Checking
 pub mod Quiet
+pub mod Doubles

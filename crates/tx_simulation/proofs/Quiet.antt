@@ -26,7 +26,7 @@ use Rattle.hard_meaning.specs.State.{Transaction, Mode, Free, Inside, Worker, se
 use Rattle.hard_meaning.specs.Aborts.{Claim, spared}
 use Rattle.hard_meaning.specs.Effects.{transaction_after, mode_after, has_room_in, did, tried}
 use Rattle.tx_simulation.proofs.Walks.{outcome-alone}
-use Rattle.tx_simulation.proofs.Points.{IsThreadOn}
+use Rattle.tx_simulation.proofs.Points.{IfInside, IsThreadOn}
 use Rattle.tx_simulation.proofs.Lines.{never-both}
 use Rattle.tx_simulation.proofs.Races.{next_of}
 use Rattle.tx_simulation.proofs.Facts.{OkIn, IsRested, machine_of}
@@ -95,7 +95,7 @@ pub record IsQuiet (mode : Mode) (c : Scene mode) (touch : Option Touch) (y : Th
   pub acts : action_in c.m c.a.frame inst ≡ action
   pub by_itself : IsAlone action
   pub none : (old : ℕ) → store_of action old ≡ None
-  pub covers : Covers (mode_after true touch None mode) (place_of action)
+  pub covers : IfInside (mode_after true touch None mode) (Covers (mode_after true touch None mode) (place_of action))
   pub stands : IsThreadOn c.m c.h c.sides (mode_after true touch None mode) (seen_in mode c.s.process.memory)
       (thread_after (frames c.m) (destination inst) c.a action (word_read (seen mode c) action)) y
 
