@@ -42,3 +42,4 @@ pub mod Silent
 pub mod Checking
 pub mod Quiet
 pub mod Doubles
+pub mod Once

@@ -77,14 +77,18 @@ module _ (m : ModuleParts) (h : HardParts) (arguments : List ℕ) (good : IsGood
   no-race = ap (race_of m) (sym facts.state) ∙ good.race_free turns
 
   -- the source's next step of the thread
+  pub steps-to : (inst : Inst) (action : Action) → inst_at m a.frame ≡ Some inst → action_in m a.frame inst ≡ action
+      → step m s t ≡ settled s (done s.process t (outcome_of (frames m) s.process t (destination inst) a action))
+  steps-to inst action stands act =
+      ap (λ (b : Bool). unless_ended b s (turned m s t (slice_get s.process.threads t))) facts.going
+      ∙ ap (λ (o : Option (Thread SourceFrame)). turned m s t o) at ∙ ap (λ (o : Option Inst). fetched m s t a o) stands
+      ∙ ap (λ (k : Action). settled s (done s.process t (outcome_of (frames m) s.process t (destination inst) a k))) act
+
   pub steps-as : (inst : Inst) (action : Action) (effect : Effect SourceFrame) → inst_at m a.frame ≡ Some inst → action_in m a.frame inst ≡ action
       → outcome_of (frames m) s.process t (destination inst) a action ≡ Goes effect
       → step m s t ≡ (record s { process = applied s.process t (Goes effect) }, Went)
   steps-as inst action effect stands act goes =
-      ap (λ (b : Bool). unless_ended b s (turned m s t (slice_get s.process.threads t))) facts.going
-      ∙ ap (λ (o : Option (Thread SourceFrame)). turned m s t o) at ∙ ap (λ (o : Option Inst). fetched m s t a o) stands
-      ∙ ap (λ (k : Action). settled s (done s.process t (outcome_of (frames m) s.process t (destination inst) a k))) act
-      ∙ ap (λ (o : Outcome SourceFrame). settled s (done s.process t o)) goes
+      steps-to inst action stands act ∙ ap (λ (o : Outcome SourceFrame). settled s (done s.process t o)) goes
 
   module _ (v : Worker) (y : Thread Frame) (plain : Bool) (hard_at : slice_get workers t ≡ Some (record v { thread = y; mode = Free plain })) (sides : Sides)
       (hurt : IsHurt sides → IsCarried (record v { thread = y; mode = Free plain })) where
