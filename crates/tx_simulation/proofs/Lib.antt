@@ -43,3 +43,4 @@ pub mod Checking
 pub mod Quiet
 pub mod Doubles
 pub mod Once
+pub mod InsideActions
