@@ -37,3 +37,4 @@ pub mod RenamedLines
 pub mod RenamedLimits
 pub mod RenamedFlow
 pub mod RenamedCalls
+pub mod RenamedKinds

@@ -3,7 +3,7 @@ use Rattle.std.proofs.Common.{ℕ, zero, suc, ◌≡◌, ◌∙◌, ◌+◌, ◌
 use Rattle.std.specs.Prelude.{nat_eq, if◌then◌else◌}
 use Rattle.std.specs.List.{list_all}
 use Rattle.std.specs.Map.{lookup}
-use Rattle.std.specs.Option.{option_map, option_map_or}
+use Rattle.std.specs.Option.{option_map, option_map_or, is_none}
 use Rattle.std.proofs.lemmas.List.{map-append}
 use Rattle.ir_core.specs.declared.types.Ty.{Ty, map-Ty, roll-Ty}
 use Rattle.ir_core.specs.declared.types.Ty as opened_types
@@ -361,3 +361,55 @@ module _ (m other : ModuleParts) (r : Renames m other) where
     inst-same (insts.Ret ty None) = refl
     inst-same (insts.Ret ty (Some value)) = plains-same (value ∷ [])
     inst-same insts.Unreachable = refl
+
+  -- ---- initialisers
+
+  abbrev IsPlainSame : Init → Type 0
+  IsPlainSame init = is_plain_init other (renamed_init q init) ≡ is_plain_init m init
+
+  abbrev bare : List (Ty × ((init : Init) × IsPlainSame init)) → List (Ty × Init)
+  bare parts = map (λ (part : Ty × ((init : Init) × IsPlainSame init)). (part.0, part.1.0)) parts
+
+  abbrev parts_by : List (Ty × Init) → List (Ty × Init)
+  parts_by parts = map (λ (part : Ty × Init). (renamed_ty q part.0, part.1)) (map (λ (part : Ty × Init). (part.0, renamed_init q part.1)) parts)
+
+  abbrev plain_by : ModuleParts → List (Ty × Init) → Bool
+  plain_by of parts = list_all (λ (part : Ty × Bool). part.1) (map (λ (part : Ty × Init). (part.0, is_plain_init of part.1)) parts)
+
+  parts-plain : (parts : List (Ty × ((init : Init) × IsPlainSame init))) → plain_by other (parts_by (bare parts)) ≡ plain_by m (bare parts)
+  parts-plain [] = refl
+  parts-plain (part ∷ parts) = rw (part.1.1, parts-plain parts) refl
+
+  layer-plain : (y : Init-F ((init : Init) × IsPlainSame init))
+      → is_plain_init other (renamed_init_step q (map-Init Init Init (renamed_init q) (map-Init ((init : Init) × IsPlainSame init) Init (λ e. e.0) y)))
+      ≡ plain_step m (map-Init Init Bool (is_plain_init m) (map-Init ((init : Init) × IsPlainSame init) Init (λ e. e.0) y))
+  unfolding opened_inits.roll-Init denote.Hole.Carrier.roll
+  layer-plain Init-F.Zero = fold-roll-Init Bool (plain_step other) Init-F.Zero
+  layer-plain (Init-F.Int n) = fold-roll-Init Bool (plain_step other) (Init-F.Int n)
+  layer-plain Init-F.Null = fold-roll-Init Bool (plain_step other) Init-F.Null
+  layer-plain (Init-F.Addr name) = fold-roll-Init Bool (plain_step other) (Init-F.Addr (renamed_sym q name)) ∙ ap not (function-same name)
+  layer-plain (Init-F.Gep gep) = fold-roll-Init Bool (plain_step other) (Init-F.Gep (renamed_gep q gep)) ∙ ap not (function-same gep.sym)
+  layer-plain (Init-F.Bytes bs) = fold-roll-Init Bool (plain_step other) (Init-F.Bytes bs)
+  layer-plain (Init-F.Parts parts) = fold-roll-Init Bool (plain_step other) (Init-F.Parts (parts_by (bare parts))) ∙ parts-plain parts
+
+  init-plain : (init : Init) → is_plain_init other (renamed_init q init) ≡ is_plain_init m init
+  init-plain = ind-Init IsPlainSame (λ x y is.
+      ap (is_plain_init other) (fold-roll-Init Init (renamed_init_step q) x ∙ ap (λ (z : Init-F Init). renamed_init_step q (map-Init Init Init (renamed_init q) z)) (flip is))
+      ∙ layer-plain y
+      ∙ ap (λ (z : Init-F Init). plain_step m (map-Init Init Bool (is_plain_init m) z)) is
+      ∙ flip (fold-roll-Init Bool (plain_step m) x))
+
+  -- ---- lines
+
+  declared-same : (ret : Ty) (params : List Ty) (o : Option External) → declares_as (renamed_ty q ret) (map (renamed_ty q) params) o ≡ declares_as ret params o
+  declared-same ret params None = refl
+  declared-same ret params (Some external) =
+      ap (has_signature (renamed_ty q ret) (map (renamed_ty q) params)) (flip (external-again q r.type_apart external)) ∙ signature-same q r.type_apart ret params (signature_of external)
+
+  pub calls-same : (line : Line) → calls_keep other (renamed_line m other r line) ≡ calls_keep m line
+  calls-same (TypeLine named) = refl
+  calls-same (GlobalLine global) = init-plain global.init
+  calls-same (DeclareLine declare) = ap (declares_as (renamed_ty q declare.ret) (map (renamed_ty q) declare.params)) (external-same declare.sym) ∙ declared-same declare.ret declare.params (external_named m declare.sym)
+  calls-same (HeadLine n f) = ap is_none (external-same f.sym)
+  calls-same (BlockLine n f b block) = refl
+  calls-same (InstLine n f b i inst) = inst-same n inst

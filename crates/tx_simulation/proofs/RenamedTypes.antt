@@ -203,7 +203,7 @@ module _ (r : Renaming) (apart : IsApart r.type_id) where
         by_definition None = refl
         by_definition (Some named) = own-same named.1
 
-    fields-same : (ty : Ty) → fields others (renamed_ty r ty) ≡ option_map (map (renamed_ty r)) (fields types ty)
+    pub fields-same : (ty : Ty) → fields others (renamed_ty r ty) ≡ option_map (map (renamed_ty r)) (fields types ty)
     fields-same ty = ap (named_fields_step others) (out-renamed r ty) ∙ fields-by (out-Ty ty)
 
     into-fields : (index : Width × ℕ) (o : Option (List Ty)) → option_and_then (field_at others index) (option_map (map (renamed_ty r)) o)
@@ -215,7 +215,7 @@ module _ (r : Renaming) (apart : IsApart r.type_id) where
         by_width true = field-same index.1 parts
         by_width false = refl
 
-    entered-same : (index : Width × ℕ) (ty : Ty) → entered others index (renamed_ty r ty) ≡ option_map renamed_place (entered types index ty)
+    pub entered-same : (index : Width × ℕ) (ty : Ty) → entered others index (renamed_ty r ty) ≡ option_map renamed_place (entered types index ty)
     entered-same index ty = ap (entered_step others index (renamed_ty r ty)) (out-renamed r ty) ∙ by_layer (out-Ty ty)
       where
         inside : option_and_then (field_at others index) (fields others (renamed_ty r ty)) ≡ option_map renamed_place (option_and_then (field_at types index) (fields types ty))
