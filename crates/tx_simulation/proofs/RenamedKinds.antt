@@ -202,3 +202,194 @@ module _ (r : Renaming) where
         operands-same : (operands : List (Ty × Val)) → list_all (operand_fits others moved) (map renamed_operand operands) ≡ list_all (operand_fits named entries) operands
         operands-same [] = refl
         operands-same (operand ∷ operands) = rw (operand-same operand.0 operand.1, operands-same operands) refl
+
+        -- ---- instructions
+
+        args-operands : (args : List (Ty × Val)) → renamed_args r args ≡ map renamed_operand args
+        args-operands [] = refl
+        args-operands (arg ∷ args) = ap (λ (rest : List (Ty × Val)). renamed_operand arg ∷ rest) (args-operands args)
+
+        arms-operands : (ty : Ty) (arms : List (Val × Loc)) → map (typed_arm (renamed_ty r ty)) (renamed_arms r arms) ≡ map renamed_operand (map (typed_arm ty) arms)
+        arms-operands ty [] = refl
+        arms-operands ty (arm ∷ arms) = ap (λ (rest : List (Ty × Val)). (renamed_ty r ty, renamed_val r arm.0) ∷ rest) (arms-operands ty arms)
+
+        index-operands : (indices : List (Width × Val)) → map typed_index (renamed_index r indices) ≡ map renamed_operand (map typed_index indices)
+        index-operands [] = refl
+        index-operands (index ∷ indices) = rw (int-again r apart index.0) (ap (λ (rest : List (Ty × Val)). (types.Int index.0, renamed_val r index.1) ∷ rest) (index-operands indices))
+
+        typed-same : (inst : Inst) → typed_operands (renamed_inst r inst) ≡ map renamed_operand (typed_operands inst)
+        typed-same (insts.Bin dst op flags w a b) = rw (int-again r apart w) refl
+        typed-same (insts.Cmp dst pred ty a b) = refl
+        typed-same (insts.Select dst cond ty a b) = rw (int-again r apart W1) refl
+        typed-same (insts.Cast dst op from a to) = refl
+        typed-same (insts.Gep dst base ptr index) = rw (ptr-again r apart) (ap (λ (rest : List (Ty × Val)). (types.Ptr, renamed_val r ptr) ∷ rest) (index-operands index))
+        typed-same (insts.Alloca dst ty) = refl
+        typed-same (insts.Load dst ty ptr atomic) = rw (ptr-again r apart) refl
+        typed-same (insts.Store ty val ptr atomic) = rw (ptr-again r apart) refl
+        typed-same (insts.Rmw dst op ptr ty val) = rw (ptr-again r apart) refl
+        typed-same (insts.CmpXchg dst ptr ty old new) = rw (ptr-again r apart) refl
+        typed-same insts.Fence = refl
+        typed-same (insts.Extract dst elem pair index) = refl
+        typed-same (insts.Call dst ret callee args) = args-operands args
+        typed-same (insts.Phi dst ty arms) = arms-operands ty arms
+        typed-same (insts.Br to) = refl
+        typed-same (insts.CondBr cond on_true on_false) = rw (int-again r apart W1) refl
+        typed-same (insts.Switch ty on default cases) = refl
+        typed-same (insts.Ret ty None) = refl
+        typed-same (insts.Ret ty (Some val)) = refl
+        typed-same insts.Unreachable = refl
+
+        arms-labels : (arms : List (Val × Loc)) → map (λ (arm : Val × Loc). arm.1) (renamed_arms r arms) ≡ map (renamed_loc r) (map (λ (arm : Val × Loc). arm.1) arms)
+        arms-labels [] = refl
+        arms-labels (arm ∷ arms) = ap (λ (rest : List Loc). renamed_loc r arm.1 ∷ rest) (arms-labels arms)
+
+        cases-labels : (cases : List (ℕ × Loc)) → map (λ (case : ℕ × Loc). case.1) (renamed_cases r cases) ≡ map (renamed_loc r) (map (λ (case : ℕ × Loc). case.1) cases)
+        cases-labels [] = refl
+        cases-labels (case ∷ cases) = ap (λ (rest : List Loc). renamed_loc r case.1 ∷ rest) (cases-labels cases)
+
+        labels-same : (inst : Inst) → labels_in (renamed_inst r inst) ≡ map (renamed_loc r) (labels_in inst)
+        labels-same (insts.Phi dst ty arms) = arms-labels arms
+        labels-same (insts.Br to) = refl
+        labels-same (insts.CondBr cond on_true on_false) = refl
+        labels-same (insts.Switch ty on default cases) = ap (λ (rest : List Loc). renamed_loc r default ∷ rest) (cases-labels cases)
+        labels-same inst = refl
+
+        names-labels : (labels : List Loc) → list_all (names_label moved) (map (renamed_loc r) labels) ≡ list_all (names_label entries) labels
+        names-labels [] = refl
+        names-labels (label ∷ labels) = rw (ap is_label (first-same entries label) ∙ label-same (first_of entries label), names-labels labels) refl
+
+        -- ---- forms
+
+        cast-same : (op : CastOp) (from to : Ty) → cast_fits op (renamed_ty r from) (renamed_ty r to) ≡ cast_fits op from to
+        cast-same Zext from to = rw (int-same from, int-same to) refl
+        cast-same Sext from to = rw (int-same from, int-same to) refl
+        cast-same Trunc from to = rw (int-same from, int-same to) refl
+        cast-same Ptrtoint from to = rw (ptr-same from, int-same to) refl
+        cast-same Inttoptr from to = rw (int-same from, ptr-same to) refl
+
+        constant-same : (index : Width × Val) → as_constant (index.0, renamed_val r index.1) ≡ as_constant index
+        constant-same index = by_value index.1
+          where
+            by_value : (value : Val) → as_constant (index.0, renamed_val r value) ≡ as_constant (index.0, value)
+            by_value (values.Reg at) = refl
+            by_value (values.Int n) = refl
+            by_value values.Null = refl
+            by_value (values.Global name) = refl
+            by_value (values.Gep gep) = refl
+
+        enter-same : (indices : List (Width × Val)) (ty : Ty) → enter others (renamed_ty r ty) (renamed_index r indices) ≡ enter named ty indices
+        enter-same [] ty = refl
+        enter-same (index ∷ indices) ty =
+            ap (λ (constant : Width × ℕ). holds_of (λ (step : Ty × ℕ). enter others step.0 (renamed_index r indices)) (entered others constant (renamed_ty r ty))) (constant-same index)
+            ∙ ap (holds_of (λ (step : Ty × ℕ). enter others step.0 (renamed_index r indices))) (entered-same r apart named (as_constant index) ty)
+            ∙ by_step (entered named (as_constant index) ty) (enter-same indices)
+          where
+            by_step : (o : Option (Ty × ℕ)) → ((inner : Ty) → enter others (renamed_ty r inner) (renamed_index r indices) ≡ enter named inner indices)
+                → holds_of (λ (step : Ty × ℕ). enter others step.0 (renamed_index r indices)) (option_map (λ (place : Ty × ℕ). (renamed_ty r place.0, place.1)) o) ≡ holds_of (λ (step : Ty × ℕ). enter named step.0 indices) o
+            by_step None rest = refl
+            by_step (Some step) rest = rest step.0
+
+        indices-same : (base : Ty) (indices : List (Width × Val)) → indices_fit others (renamed_ty r base) (renamed_index r indices) ≡ indices_fit named base indices
+        indices-same base [] = refl
+        indices-same base (index ∷ indices) = enter-same indices base
+
+        ret-same : (ret ty : Ty) (o : Option Val) → ret_fits (renamed_ty r ret) (renamed_ty r ty) (renamed_option (renamed_val r) o) ≡ ret_fits ret ty o
+        ret-same ret ty None = rw (type-same r apart ty ret, void-same ty) refl
+        ret-same ret ty (Some value) = type-same r apart ty ret
+
+        form-same : (ret : Ty) (inst : Inst) → form_fits others moved (renamed_ty r ret) (renamed_inst r inst) ≡ form_fits named entries ret inst
+        form-same ret (insts.Cast dst op from a to) = cast-same op from to
+        form-same ret (insts.Gep dst base ptr index) = indices-same base index
+        form-same ret (insts.Extract dst elem pair index) = ap (is_pair_of (renamed_ty r elem)) (first-same entries pair) ∙ pair-same elem (first_of entries pair)
+        form-same ret (insts.Ret ty val) = ret-same ret ty val
+        form-same ret inst = refl
+
+        pub fits-same : (ret : Ty) (inst : Inst) → inst_fits others moved (renamed_ty r ret) (renamed_inst r inst) ≡ inst_fits named entries ret inst
+        fits-same ret inst =
+            ap (λ (b : Bool). (b && list_all (names_label moved) (labels_in (renamed_inst r inst))) && form_fits others moved (renamed_ty r ret) (renamed_inst r inst))
+            (ap (list_all (operand_fits others moved)) (typed-same inst) ∙ operands-same (typed_operands inst))
+            ∙ ap (λ (b : Bool). (list_all (operand_fits named entries) (typed_operands inst) && b) && form_fits others moved (renamed_ty r ret) (renamed_inst r inst))
+            (ap (list_all (names_label moved)) (labels-same inst) ∙ names-labels (labels_in inst))
+            ∙ ap (λ (b : Bool). (list_all (operand_fits named entries) (typed_operands inst) && list_all (names_label entries) (labels_in inst)) && b) (form-same ret inst)
+
+  -- ---- initialisers
+
+  module _ (apart : IsApart r.type_id) (named : List (TypeId × Ty)) where
+    abbrev otherwise : List (TypeId × Ty)
+    otherwise = map (renamed_named r) named
+
+    abbrev Fitting : Init → Type 0
+    Fitting init = (ty : Ty) → init_fits otherwise (renamed_init r init) (renamed_ty r ty) ≡ init_fits named init ty
+
+    abbrev bare : List (Ty × ((init : Init) × Fitting init)) → List (Ty × Init)
+    bare parts = map (λ (part : Ty × ((init : Init) × Fitting init)). (part.0, part.1.0)) parts
+
+    abbrev parts_by : List (Ty × Init) → List (Ty × Init)
+    parts_by parts = map (λ (part : Ty × Init). (renamed_ty r part.0, part.1)) (map (λ (part : Ty × Init). (part.0, renamed_init r part.1)) parts)
+
+    abbrev tests_by : List (TypeId × Ty) → List (Ty × Init) → List (Ty × (Ty → Bool))
+    tests_by types parts = map (λ (part : Ty × Init). (part.0, init_fits types part.1)) parts
+
+    abbrev old : List (Ty × ((init : Init) × Fitting init)) → List (Ty × (Ty → Bool))
+    old parts = tests_by named (bare parts)
+
+    abbrev new : List (Ty × ((init : Init) × Fitting init)) → List (Ty × (Ty → Bool))
+    new parts = tests_by otherwise (parts_by (bare parts))
+
+    fields-fit : (tys : List Ty) (parts : List (Ty × ((init : Init) × Fitting init))) → fields_fit (map (renamed_ty r) tys) (new parts) ≡ fields_fit tys (old parts)
+    fields-fit [] [] = refl
+    fields-fit [] (part ∷ parts) = refl
+    fields-fit (ty ∷ tys) [] = refl
+    fields-fit (ty ∷ tys) (part ∷ parts) = rw (type-same r apart part.0 ty, part.1.1 ty, fields-fit tys parts) refl
+
+    elements-all : (element : Ty) (parts : List (Ty × ((init : Init) × Fitting init))) → list_all (part_fits (renamed_ty r element)) (new parts) ≡ list_all (part_fits element) (old parts)
+    elements-all element [] = refl
+    elements-all element (part ∷ parts) = rw (type-same r apart part.0 element, part.1.1 element, elements-all element parts) refl
+
+    lengths : (parts : List (Ty × ((init : Init) × Fitting init))) → length (new parts) ≡ length (old parts)
+    lengths [] = refl
+    lengths (part ∷ parts) = ap suc (lengths parts)
+
+    elements-fit : (parts : List (Ty × ((init : Init) × Fitting init))) (x : Ty-F Ty) → elements_fit (new parts) (numbered_layer r.type_id (map-Ty Ty Ty (renamed_ty r) x)) ≡ elements_fit (old parts) x
+    elements-fit parts (Ty-F.Array count element) = rw (lengths parts, elements-all element parts) refl
+    elements-fit parts Ty-F.Void = refl
+    elements-fit parts (Ty-F.Int w) = refl
+    elements-fit parts Ty-F.Ptr = refl
+    elements-fit parts (Ty-F.Struct tys) = refl
+    elements-fit parts (Ty-F.Named id) = refl
+
+    parts-fit : (parts : List (Ty × ((init : Init) × Fitting init))) (ty : Ty) (o : Option (List Ty)) → parts_fit (new parts) (renamed_ty r ty) (option_map (map (renamed_ty r)) o) ≡ parts_fit (old parts) ty o
+    parts-fit parts ty None = ap (elements_fit (new parts)) (out-renamed r ty) ∙ elements-fit parts (out-Ty ty)
+    parts-fit parts ty (Some tys) = fields-fit tys parts
+
+    bytes-by : (count : ℕ) (x : Ty-F Ty) → is_byte_array_step count (numbered_layer r.type_id (map-Ty Ty Ty (renamed_ty r) x)) ≡ is_byte_array_step count x
+    bytes-by count (Ty-F.Array own element) = ap (λ (b : Bool). nat_eq own count && b) (ap (λ (t : Ty). same_ty t (renamed_ty r element)) (flip (int-again r apart W8)) ∙ type-same r apart (types.Int W8) element)
+    bytes-by count Ty-F.Void = refl
+    bytes-by count (Ty-F.Int w) = refl
+    bytes-by count Ty-F.Ptr = refl
+    bytes-by count (Ty-F.Struct tys) = refl
+    bytes-by count (Ty-F.Named id) = refl
+
+    bytes-same : (count : ℕ) (ty : Ty) → is_byte_array count (renamed_ty r ty) ≡ is_byte_array count ty
+    bytes-same count ty = ap (is_byte_array_step count) (out-renamed r ty) ∙ bytes-by count (out-Ty ty)
+
+    by-layer : (y : Init-F ((init : Init) × Fitting init)) (ty : Ty)
+        → init_fits otherwise (renamed_init_step r (map-Init Init Init (renamed_init r) (map-Init ((init : Init) × Fitting init) Init (λ e. e.0) y))) (renamed_ty r ty)
+        ≡ init_step named (map-Init Init (Ty → Bool) (init_fits named) (map-Init ((init : Init) × Fitting init) Init (λ e. e.0) y)) ty
+    unfolding opened_inits.roll-Init denote.Hole.Carrier.roll
+    by-layer Init-F.Zero ty = ap (λ (f : Ty → Bool). f (renamed_ty r ty)) (fold-roll-Init (Ty → Bool) (init_step otherwise) Init-F.Zero)
+    by-layer (Init-F.Int n) ty = ap (λ (f : Ty → Bool). f (renamed_ty r ty)) (fold-roll-Init (Ty → Bool) (init_step otherwise) (Init-F.Int n)) ∙ ap is_some (int-same ty)
+    by-layer Init-F.Null ty = ap (λ (f : Ty → Bool). f (renamed_ty r ty)) (fold-roll-Init (Ty → Bool) (init_step otherwise) Init-F.Null) ∙ ptr-same ty
+    by-layer (Init-F.Addr name) ty = ap (λ (f : Ty → Bool). f (renamed_ty r ty)) (fold-roll-Init (Ty → Bool) (init_step otherwise) (Init-F.Addr (renamed_sym r name))) ∙ ptr-same ty
+    by-layer (Init-F.Gep gep) ty = ap (λ (f : Ty → Bool). f (renamed_ty r ty)) (fold-roll-Init (Ty → Bool) (init_step otherwise) (Init-F.Gep (renamed_gep r gep)))
+        ∙ ap (λ (b : Bool). b && gep_fits otherwise (renamed_gep r gep)) (ptr-same ty) ∙ ap (λ (o : Option ℕ). is_ptr ty && is_some o) (offset-same r apart named gep.base gep.index)
+    by-layer (Init-F.Bytes bs) ty = ap (λ (f : Ty → Bool). f (renamed_ty r ty)) (fold-roll-Init (Ty → Bool) (init_step otherwise) (Init-F.Bytes bs)) ∙ bytes-same (length bs) ty
+    by-layer (Init-F.Parts parts) ty = ap (λ (f : Ty → Bool). f (renamed_ty r ty)) (fold-roll-Init (Ty → Bool) (init_step otherwise) (Init-F.Parts (parts_by (bare parts))))
+        ∙ ap (parts_fit (new parts) (renamed_ty r ty)) (fields-same r apart named ty) ∙ parts-fit parts ty (fields named ty)
+
+    pub inits-same : (init : Init) (ty : Ty) → init_fits otherwise (renamed_init r init) (renamed_ty r ty) ≡ init_fits named init ty
+    inits-same = ind-Init Fitting (λ x y is ty.
+        ap (λ (init : Init). init_fits otherwise init (renamed_ty r ty)) (fold-roll-Init Init (renamed_init_step r) x ∙ ap (λ (z : Init-F Init). renamed_init_step r (map-Init Init Init (renamed_init r) z)) (flip is))
+        ∙ by-layer y ty
+        ∙ ap (λ (z : Init-F Init). init_step named (map-Init Init (Ty → Bool) (init_fits named) z) ty) is
+        ∙ flip (ap (λ (f : Ty → Bool). f ty) (fold-roll-Init (Ty → Bool) (init_step named) x)))
