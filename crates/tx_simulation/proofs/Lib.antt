@@ -38,3 +38,4 @@ pub mod RenamedLimits
 pub mod RenamedFlow
 pub mod RenamedCalls
 pub mod RenamedKinds
+pub mod RenamedAccepted

@@ -84,7 +84,7 @@ module _ (r : Renaming) where
   by-aggregate (Ty-F.Struct parts) = refl
   by-aggregate (Ty-F.Named id) = refl
 
-  parts-same : (ty : Ty) → has_no_parts (renamed_ty r ty) ≡ has_no_parts ty
+  pub parts-same : (ty : Ty) → has_no_parts (renamed_ty r ty) ≡ has_no_parts ty
   parts-same ty = ap not (ap is_aggregate_step (out-renamed r ty) ∙ by-aggregate (out-Ty ty))
 
   pair-again : (ty : Ty) → renamed_ty r (pair_type ty) ≡ pair_type (renamed_ty r ty)
@@ -145,7 +145,7 @@ module _ (r : Renaming) where
     blocks-entries : (blocks : List Block) → flat_map block_meanings (map (renamed_block r) blocks) ≡ map renamed_entry (flat_map block_meanings blocks)
     blocks-entries = flat-images (renamed_block r) block_meanings block_meanings renamed_entry (λ block. ap (λ (rest : List (Loc × Meaning)). (renamed_loc r block.label, Label) ∷ rest) (body-entries block.insts))
 
-    entries-same : (params : List (Ty × Loc)) (blocks : List Block)
+    pub entries-same : (params : List (Ty × Loc)) (blocks : List Block)
         → map param_meaning (map (renamed_param r) params) ++ flat_map block_meanings (map (renamed_block r) blocks) ≡ map renamed_entry (map param_meaning params ++ flat_map block_meanings blocks)
     entries-same params blocks = rw (params-entries params, blocks-entries blocks) (flip (map-append renamed_entry (map param_meaning params) (flat_map block_meanings blocks)))
 

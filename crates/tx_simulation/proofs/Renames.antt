@@ -170,10 +170,8 @@ module _ (m other : ModuleParts) (r : Renames m other) where
 
   -- ---- `main`
 
+  pub main-of : (n : ℕ) (f g : FuncParts) → slice_get m.funcs n ≡ Some f → slice_get other.funcs n ≡ Some g → is_main other g ≡ is_main m f
+  main-of n f g at there = ap (is_main other) (func-at n f g at there) ∙ rw (r.names f.sym.0, int-same (inside n) f.ret W32, none-same (renamed_param (inside n)) f.params) refl
+
   pub main-same : main_of other ≡ main_of m
-  main-same = ap (λ (o : Option ℕ). unwrap_or o 0) (position-same (is_main m) (is_main other) m.funcs other.funcs r.count
-      (λ n f g at there. ap (is_main other) (func-at n f g at there) ∙ renamed-main f (inside n) g.names refl refl))
-    where
-      renamed-main : (f : FuncParts) (q : Renaming) (names : List (List ℕ)) → q.sym ≡ r.outer.sym → q.type_id ≡ r.outer.type_id
-          → is_main other (record (renamed_func q f) { names = names }) ≡ is_main m f
-      renamed-main f q names e g = rw (e, r.names f.sym.0, int-same q f.ret W32, none-same (renamed_param q) f.params) refl
+  main-same = ap (λ (o : Option ℕ). unwrap_or o 0) (position-same (is_main m) (is_main other) m.funcs other.funcs r.count main-of)
