@@ -1,8 +1,8 @@
 -- An accepted module is accepted under other numbers, where no function's table of names is too long.
-use Rattle.std.proofs.Common.{ℕ, zero, suc, ◌≡◌, ◌∙◌, ◌&&◌, ◌||◌, Bool, true, false, not, List, [], ◌∷◌, ◌++◌, map, length, Option, Some, None, slice_get, refl, ap, sym as flip, subst, arith}
+use Rattle.std.proofs.Common.{ℕ, suc, ◌≡◌, ◌∙◌, ◌&&◌, Bool, true, false, not, List, [], ◌∷◌, map, length, Option, Some, None, slice_get, refl, ap, sym as flip, subst, arith}
 use Rattle.std.specs.Prelude.{◌==◌, if◌then◌else◌}
-use Rattle.std.specs.List.{flat_map, list_all, list_any}
-use Rattle.std.specs.Option.{option_map, option_or}
+use Rattle.std.specs.List.{list_all, list_any}
+use Rattle.std.specs.Option.{option_map, option_map_or, option_or}
 use Rattle.ir_core.specs.declared.types.Ty.{Ty}
 use Rattle.ir_core.specs.declared.types.TypeId.{TypeId}
 use Rattle.ir_core.specs.declared.types.Loc.{Loc}
@@ -10,25 +10,30 @@ use Rattle.ir_core.specs.Module.{ModuleParts, FuncParts}
 use Rattle.ir_lines.specs.declared.site.Site.TheVariants.{Module}
 use Rattle.ir_lines.specs.Lines.{Line, TypeLine, GlobalLine, DeclareLine, HeadLine, BlockLine, InstLine, lines_of, first_break}
 use Rattle.ir_calls.specs.Calls.{calls_keep}
-use Rattle.ir_types.specs.Meanings.{Meaning, meanings, param_meaning, block_meanings}
+use Rattle.ir_types.specs.Meanings.{Meaning, meanings}
 use Rattle.ir_types.specs.Types.{has_no_parts, signature_fits, init_fits, inst_fits, types_keep}
 use Rattle.ir_names.specs.Names.{duplicate, unknown}
 use Rattle.ir_check.specs.declared.fault.Kind.{Kind}
 use Rattle.ir_check.specs.declared.fault.Kind.TheVariants.{BadTerminator, BadCall, TypeMismatch, NoMain, EntryHasPredecessor}
-use Rattle.ir_check.specs.Blocks.{ends_well, begins_well, terminators_keep, enters, entries_keep}
-use Rattle.ir_check.specs.CodeLimits.{broken_limit}
-use Rattle.ir_check.specs.Faults.{Fault, IsAccepted, fault_at, fault_with, rule_fault, duplicate_fault, unknown_fault, limit_told, limit_fault, main_fault, shape_fault, code_fault}
+use Rattle.ir_check.specs.Blocks.{terminators_keep, entries_keep}
+use Rattle.ir_check.specs.CodeLimits.{over, broken_limit}
+use Rattle.ir_layout.specs.declared.limits.LimitKind.TheVariants.{Registers}
+use Rattle.ir_check.specs.Faults.{Fault, IsAccepted, fault_at, rule_fault, duplicate_fault, unknown_fault, limit_told, limit_fault, main_fault, shape_fault, code_fault}
 use Rattle.ir_check.specs.Functions.{is_main, has_main}
 use Rattle.ir_check.proofs.ModuleLines.{neither, no-image}
-use Rattle.ir_numbering.specs.Renaming.{Renaming, renamed_ty, renamed_init, renamed_inst, renamed_param, renamed_func}
+use Rattle.ir_numbering.specs.Renaming.{Renaming, renamed_ty, renamed_init, renamed_inst, renamed_param}
 use Rattle.ir_numbering.specs.Numbers.{renamed_named}
+use Rattle.hard_ir.specs.Images.{IsSameModule}
+use Rattle.src_meaning.specs.Races.{IsGood}
+use Rattle.src_meaning.specs.Runs.{source as source_run}
 use Rattle.tx_simulation.proofs.Blocks.{same-place}
-use Rattle.tx_simulation.proofs.Renames.{Renames, inside, main-of}
+use Rattle.tx_simulation.proofs.SameModules.{AreNumbered, renames, same-answers, same-outputs, same-good}
+use Rattle.tx_simulation.proofs.Renames.{Renames, main-of}
 use Rattle.tx_simulation.proofs.RenamedLines.{in_, names_of_func, func_by, renamed_line, funcs-here, duplicates-same, unknowns-same, rules-same}
 use Rattle.tx_simulation.proofs.RenamedLimits.{AreFew, limits-same}
 use Rattle.tx_simulation.proofs.RenamedFlow.{ends-same, begins-same, enters-same, phis-fit, uses-assigned}
 use Rattle.tx_simulation.proofs.RenamedCalls.{calls-same}
-use Rattle.tx_simulation.proofs.RenamedKinds.{renamed_meaning, parts-same, entries-same, fits-same, inits-same}
+use Rattle.tx_simulation.proofs.RenamedKinds.{parts-same, entries-same, fits-same, inits-same}
 
 any-pairs : {A B : Type 0} (p : A → Bool) (q : B → Bool) (xs : List A) (ys : List B) → length ys ≡ length xs
     → ((n : ℕ) (x : A) (y : B) → slice_get xs n ≡ Some x → slice_get ys n ≡ Some y → q y ≡ p x) → list_any q ys ≡ list_any p xs
@@ -150,3 +155,29 @@ module _ (m other : ModuleParts) (r : Renames m other) where
           (nothing _ _ (rule-same BadCall (calls_keep m) (calls_keep other) (calls-same m other r) e.0)
           (nothing _ _ (rule-same TypeMismatch (types_keep m) (types_keep other) kinds-same f.0)
           (nothing _ _ main (rule-same EntryHasPredecessor entries_keep entries_keep entries-kept g.1)))))))
+
+-- ---- images by names
+
+-- a module that stands for an accepted one, whatever its names are numbered by
+pub record IsStandIn (m source : ModuleParts) : Type 0 where
+  pub accepted : IsAccepted source
+  pub good : (arguments : List ℕ) → IsGood m arguments → IsGood source arguments
+  pub answers : (arguments turns : List ℕ) → (source_run source arguments turns).answers ≡ (source_run m arguments turns).answers
+  pub outputs : (arguments turns : List ℕ) → (source_run source arguments turns).state.process.world.outputs ≡ (source_run m arguments turns).state.process.world.outputs
+
+few-names : (m other : ModuleParts) (r : Renames m other) → ((n : ℕ) (g : FuncParts) → slice_get other.funcs n ≡ Some g → over 65536 (length g.names) Registers ≡ None) → AreFew m other r
+few-names m other r few n = by (slice_get other.funcs n) refl
+  where
+    by : (o : Option FuncParts) → slice_get other.funcs n ≡ o → over 65536 (length (option_map_or (λ (g : FuncParts). g.names) o [])) Registers ≡ None
+    by None e = refl
+    by (Some g) e = few n g e
+
+-- the same module under other numbers, where its names are in tables and the other tables aren't too long
+pub stands-in : (m source : ModuleParts) (same : IsSameModule m source) → AreNumbered m → IsAccepted m
+    → ((n : ℕ) (g : FuncParts) → slice_get source.funcs n ≡ Some g → over 65536 (length g.names) Registers ≡ None) → IsStandIn m source
+stands-in m source same numbered accepted few = record {
+  accepted = accepted-again m source (renames m source same numbered) accepted (few-names m source (renames m source same numbered) few);
+  good = λ arguments good. same-good m source same numbered arguments good;
+  answers = λ arguments turns. same-answers m source same numbered arguments turns;
+  outputs = λ arguments turns. same-outputs m source same numbered arguments turns;
+}

@@ -1,9 +1,9 @@
 -- What the registers and labels of a function are, and whether types fit, under other numbers.
-use Rattle.std.proofs.Common.{ℕ, zero, suc, ◌≡◌, ◌∙◌, ◌+◌, ◌&&◌, Bool, true, false, not, List, [], ◌∷◌, ◌++◌, map, find, length, Option, Some, None, slice_get, refl, ap, sym as flip, subst}
+use Rattle.std.proofs.Common.{ℕ, suc, ◌≡◌, ◌∙◌, ◌&&◌, Bool, true, false, not, List, [], ◌∷◌, ◌++◌, map, length, Option, Some, None, refl, ap, sym as flip}
 use Rattle.std.specs.Prelude.{nat_eq, if◌then◌else◌}
 use Rattle.std.specs.List.{flat_map, filter_map, list_all, cons_option}
 use Rattle.std.specs.Option.{option_map, is_some}
-use Rattle.std.proofs.lemmas.List.{map-append, length-map}
+use Rattle.std.proofs.lemmas.List.{map-append}
 use Rattle.ir_core.specs.declared.types.Ty.{Ty, map-Ty, roll-Ty}
 use Rattle.ir_core.specs.declared.types.Ty as opened_types
 use Rattle.ir_core.specs.declared.types.Ty.TheFolds.{fold-roll-Ty}
@@ -13,7 +13,7 @@ use Rattle.ir_core.specs.declared.types.Ty.TheVariants as types
 use Rattle.ir_core.specs.declared.types.TypeId.{TypeId}
 use Rattle.ir_core.specs.declared.types.Loc.{Loc}
 use Rattle.ir_core.specs.declared.types.Width.{Width}
-use Rattle.ir_core.specs.declared.types.Width.TheVariants.{W1, W8, W64}
+use Rattle.ir_core.specs.declared.types.Width.TheVariants.{W1, W8}
 use Rattle.ir_core.specs.declared.values.ConstGep.{ConstGep}
 use Rattle.ir_core.specs.declared.values.Val.{Val}
 use Rattle.ir_core.specs.declared.values.Val.TheVariants as values
@@ -26,19 +26,15 @@ use Rattle.ir_core.specs.declared.instruction.CastOp.TheVariants.{Zext, Sext, Tr
 use Rattle.ir_core.specs.declared.instruction.Inst.{Inst}
 use Rattle.ir_core.specs.declared.instruction.Inst.TheVariants as insts
 use Rattle.ir_core.specs.declared.instruction.Block.{Block}
-use Rattle.ir_core.specs.Module.{ModuleParts, FuncParts}
-use Rattle.ir_layout.specs.Offsets.{fields, entered, offset_of}
-use Rattle.ir_lines.specs.Lines.{Line, TypeLine, GlobalLine, DeclareLine, HeadLine, BlockLine, InstLine}
+use Rattle.ir_layout.specs.Offsets.{fields, entered}
 use Rattle.ir_lines.specs.SameTypes.{same_ty}
 use Rattle.ir_types.specs.Firsts.{entry_of, first_of}
-use Rattle.ir_types.specs.Meanings.{Meaning, Label, Register, Pair, extracted, result_of, param_meaning, block_meanings, meanings}
-use Rattle.ir_types.specs.Types.{int_width_step, int_width, is_int, is_ptr_step, is_ptr, is_void_step, is_void, is_aggregate_step, is_aggregate, pair_type, is_register_of, is_label, names_label, is_pair_of, gep_fits, operand_fits, typed_index, typed_arm, typed_result, typed_operands, labels_in, is_narrower, cast_fits, holds_of, as_constant, enter, indices_fit, ret_fits, form_fits, inst_fits, is_byte_array_step, is_byte_array, part_fits, fields_fit, elements_fit, parts_fit, init_step, init_fits, has_no_parts, signature_fits, types_keep}
+use Rattle.ir_types.specs.Meanings.{Meaning, Label, Register, Pair, result_of, param_meaning, block_meanings}
+use Rattle.ir_types.specs.Types.{int_width_step, int_width, is_ptr_step, is_ptr, is_void_step, is_void, is_aggregate_step, pair_type, is_register_of, is_label, names_label, is_pair_of, gep_fits, operand_fits, typed_index, typed_arm, typed_operands, labels_in, cast_fits, holds_of, as_constant, enter, indices_fit, ret_fits, form_fits, inst_fits, is_byte_array_step, is_byte_array, part_fits, fields_fit, elements_fit, parts_fit, init_step, init_fits, has_no_parts}
 use Rattle.ir_numbering.specs.Renaming.{Renaming, renamed_loc, renamed_sym, renamed_step, renamed_ty, renamed_val, renamed_gep, renamed_args, renamed_arms, renamed_cases, renamed_index, renamed_option, renamed_init_step, renamed_init, renamed_inst, renamed_block, renamed_param}
 use Rattle.ir_numbering.specs.Numbers.{renamed_named}
-use Rattle.tx_simulation.proofs.RenamedTypes.{IsApart, same-test, find-map, map-map, numbered_layer, out-renamed, offset-same, fields-same, entered-same}
-use Rattle.tx_simulation.proofs.RenamedCalls.{type-same, int-again, ptr-again}
-use Rattle.tx_simulation.proofs.RenamedLines.{in_, func_by, renamed_line, flat-images}
-use Rattle.tx_simulation.proofs.Renames.{Renames, inside}
+use Rattle.tx_simulation.proofs.RenamedTypes.{IsApart, same-test, find-map, numbered_layer, out-renamed, offset-same, fields-same, entered-same, type-same, int-again, ptr-again}
+use Rattle.tx_simulation.proofs.RenamedLines.{flat-images}
 
 module _ (r : Renaming) where
   -- ---- kinds of types
