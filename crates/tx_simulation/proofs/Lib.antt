@@ -20,6 +20,7 @@ pub mod Entries
 pub mod Edges
 pub mod Landing
 pub mod Straying
+pub mod Branching
 pub mod Opening
 pub mod Growing
 pub mod Loose
