@@ -78,11 +78,6 @@ IsOwn names (Local at) = at.0 < length names
 IsOwn names (Struct id) = Unit {0}
 IsOwn names (Global name) = Unit {0}
 
-both-within : (m : ModuleParts) (names : List (List ℕ)) (place : Place) → IsOuter m place → IsOwn names place → IsWithin m names place
-both-within m names (Local at) outer own = own
-both-within m names (Struct id) outer own = outer
-both-within m names (Global name) outer own = outer
-
 module _ (text : List ℕ) (tree : ModuleParts) where
   abbrev table : ModuleParts
   table = module_with text (places_of_module tree) empty_module

@@ -56,10 +56,6 @@ module _ (r : Renaming) (apart : IsApart r.type_id) where
 -- ---- values
 
 module _ (r : Renaming) where
-  option-values : (o : Option Val) → values_of (insts.Ret types.Void (renamed_option (renamed_val r) o)) ≡ map (renamed_val r) (values_of (insts.Ret types.Void o))
-  option-values None = refl
-  option-values (Some value) = refl
-
   args-values : (args : List (Ty × Val)) → map (λ (arg : Ty × Val). arg.1) (renamed_args r args) ≡ map (renamed_val r) (map (λ (arg : Ty × Val). arg.1) args)
   args-values [] = refl
   args-values (arg ∷ args) = ap (λ (rest : List Val). renamed_val r arg.1 ∷ rest) (args-values args)
