@@ -118,16 +118,6 @@ number-of-block m n b f block label accepted at there e =
     let number : some.0 ≡ b = omega (arith, is.number, same) in
     some.1 ∙ ap (λ (k : ℕ). Some k) number
 
--- the hardened block with a label is the one of that number
-pub hard-labelled : (m : ModuleParts) (n b : ℕ) (f : FuncParts) (block : Block) (blocks : List HBlock) (image : IsFuncImage (IsLooseCode m) f blocks) (hard other : HBlock)
-    → IsAccepted m → slice_get m.funcs n ≡ Some f → slice_get f.blocks b ≡ Some block → slice_get blocks b ≡ Some hard
-    → IsIn other blocks → other.label.0 ≡ block.label.0 → other ≡ hard
-hard-labelled m n b f block blocks image hard other accepted at there hard_there (k, other_there) e =
-    let from = same-place blocks f.blocks k other (sym image.count) other_there in
-    let label : other.label ≡ from.0.label = (image.each k from.0 other from.1 other_there).label in
-    let same : k ≡ b = labels-apart m n k b f from.0 block accepted at from.1 there (ap (λ (l : Loc). l.0) (sym label) ∙ e) in
-    let both : Some other ≡ Some hard = sym other_there ∙ ap (slice_get blocks) same ∙ hard_there in cc
-
 -- ---- the entry
 
 -- the last instruction of a block that leads somewhere

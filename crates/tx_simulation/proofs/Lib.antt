@@ -21,6 +21,7 @@ pub mod Entries
 pub mod Edges
 pub mod Landing
 pub mod Straying
+pub mod Branching
 pub mod Opening
 pub mod Growing
 pub mod Loose
@@ -38,6 +39,8 @@ pub mod RenamedLines
 pub mod RenamedLimits
 pub mod RenamedFlow
 pub mod RenamedCalls
+pub mod RenamedKinds
+pub mod RenamedAccepted
 pub mod Silent
 pub mod Checking
 pub mod Quiet

@@ -61,21 +61,13 @@ in-function : (f : FuncParts) (b : ℕ) (block : Block) (at : Loc) → slice_get
 in-function f b block at there h =
     any-named f at (in-back at (map (λ param. param.1) f.params) (flat_map names_in f.blocks) (in-flat names_in block at f.blocks (b, there) h))
 
-pub label-named : (f : FuncParts) (b : ℕ) (block : Block) → slice_get f.blocks b ≡ Some block → is_named f block.label ≡ true
-label-named f b block there = in-function f b block block.label there (0, refl)
-
 -- a register of an instruction
 pub register-named : (f : FuncParts) (b i : ℕ) (block : Block) (inst : Inst) (at : Loc) → slice_get f.blocks b ≡ Some block → slice_get block.insts i ≡ Some inst
     → IsIn at (registers_of inst) → is_named f at ≡ true
 register-named f b i block inst at there stands h =
     in-function f b block at there (next-in at block.label (flat_map registers_of block.insts) (in-flat registers_of inst at block.insts (i, stands) h))
 
--- that takes its result, that it reads, or that one of its arms does
-pub result-in : (inst : Inst) (at : Loc) → result_of inst ≡ Some at → IsIn at (registers_of inst)
-result-in inst at e =
-    in-front at (in_option (result_of inst)) (regs_in inst ++ flat_map (λ arm. reg_in arm.0) (arms_in inst))
-    (subst (λ (o : Option Loc). IsIn at (in_option o)) (sym e) (0, refl))
-
+-- that it reads, or that one of its arms does
 pub read-in : (inst : Inst) (at : Loc) → IsIn at (regs_in inst) → IsIn at (registers_of inst)
 read-in inst at h = in-back at (in_option (result_of inst)) (regs_in inst ++ flat_map (λ arm. reg_in arm.0) (arms_in inst))
     (in-front at (regs_in inst) (flat_map (λ arm. reg_in arm.0) (arms_in inst)) h)

@@ -1,5 +1,5 @@
 -- A module whose names were numbered by the places of its tree has all of them in its tables, each once.
-use Rattle.std.proofs.Common.{ℕ, zero, suc, ◌≡◌, ◌⊎◌, inl, inr, ◌∙◌, ◌<◌, ◌≤◌, Bool, true, false, List, [], ◌∷◌, ◌++◌, map, fold, length, get_or, Option, Some, None, slice_get, refl, ap, sym as flip, subst, arith, Contains}
+use Rattle.std.proofs.Common.{ℕ, zero, suc, ◌≡◌, ◌⊎◌, inl, inr, ◌∙◌, ◌<◌, ◌≤◌, true, false, List, [], ◌∷◌, ◌++◌, map, length, get_or, Option, Some, None, slice_get, refl, ap, sym as flip, subst, arith, Contains}
 use Rattle.std.specs.List.{flat_map, IsDistinct}
 use Rattle.std.specs.Option.{option_map}
 use Rattle.std.specs.Str.{bytes_eq}
@@ -13,10 +13,9 @@ use Rattle.ir_core.specs.declared.types.Ty.TheVariants as types
 use Rattle.ir_core.proofs.Numbering.{IsDistinct-numbered}
 use Rattle.ir_numbering.specs.declared.places.Place.{Place}
 use Rattle.ir_numbering.specs.declared.places.Place.TheVariants.{Local, Struct, Global}
-use Rattle.ir_numbering.specs.Laws.{HasNumber}
 use Rattle.ir_numbering.specs.Places.{definitions_of_func, mentions_of_func, places_of_global, places_of_declare, places_of_func}
-use Rattle.ir_numbering.specs.Renaming.{Renaming, renamed_func, renamed_global}
-use Rattle.ir_numbering.specs.Numbers.{locals_at, structs_at, globals_at, with_names, module_with, func_with, renaming_of, renaming_outside, numbered_func, places_of_named, places_of_module, renamed_named, numbered_module}
+use Rattle.ir_numbering.specs.Renaming.{Renaming}
+use Rattle.ir_numbering.specs.Numbers.{locals_at, structs_at, globals_at, with_names, module_with, renaming_of, renaming_outside, numbered_func, places_of_named, places_of_module, numbered_module}
 use Rattle.ir_numbering.proofs.Kept.{HasNumber-with}
 use Rattle.tx_simulation.proofs.RenamedAgain.{AllAt, front-at, back-at}
 use Rattle.tx_simulation.proofs.RenamedPlaces.{renamed_place, mentions-moved, types-moved, globals-moved, declares-moved}
@@ -78,11 +77,6 @@ abbrev IsOwn : List (List ℕ) → Place → Type 0
 IsOwn names (Local at) = at.0 < length names
 IsOwn names (Struct id) = Unit {0}
 IsOwn names (Global name) = Unit {0}
-
-both-within : (m : ModuleParts) (names : List (List ℕ)) (place : Place) → IsOuter m place → IsOwn names place → IsWithin m names place
-both-within m names (Local at) outer own = own
-both-within m names (Struct id) outer own = outer
-both-within m names (Global name) outer own = outer
 
 module _ (text : List ℕ) (tree : ModuleParts) where
   abbrev table : ModuleParts

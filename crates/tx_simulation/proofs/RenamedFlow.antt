@@ -1,8 +1,8 @@
 -- Blocks, edges, phis and uses of a function under other numbers: what held of them holds.
-use Rattle.std.proofs.Common.{ℕ, zero, suc, ◌≡◌, ◌∙◌, ◌+◌, ◌-◌, ◌&&◌, ◌||◌, Bool, true, false, not, List, [], ◌∷◌, ◌++◌, map, take, length, Option, Some, None, slice_get, refl, ap, sym as flip, subst, arith}
-use Rattle.std.specs.Prelude.{nat_eq, ◌==◌, if◌then◌else◌}
-use Rattle.std.specs.List.{flat_map, filter_map, list_any, cons_option}
-use Rattle.std.specs.Option.{option_map, option_map_or, option_or}
+use Rattle.std.proofs.Common.{ℕ, zero, suc, ◌≡◌, ◌∙◌, ◌+◌, ◌-◌, ◌||◌, Bool, List, [], ◌∷◌, ◌++◌, map, take, length, Option, Some, None, slice_get, refl, ap, sym as flip, subst}
+use Rattle.std.specs.Prelude.{nat_eq, ◌==◌}
+use Rattle.std.specs.List.{flat_map, filter_map, list_any}
+use Rattle.std.specs.Option.{option_map, option_map_or}
 use Rattle.std.proofs.lemmas.List.{map-append, length-map}
 use Rattle.std.proofs.lemmas.Option.{slice_get-map}
 use Rattle.ir_core.specs.declared.types.Ty.{Ty}
@@ -14,10 +14,10 @@ use Rattle.ir_core.specs.declared.instruction.Inst.{Inst}
 use Rattle.ir_core.specs.declared.instruction.Inst.TheVariants as insts
 use Rattle.ir_core.specs.declared.instruction.Block.{Block}
 use Rattle.ir_core.specs.Instructions.{result_of, is_phi}
-use Rattle.ir_core.specs.Module.{ModuleParts, FuncParts}
-use Rattle.ir_flow.specs.Edges.{labels_of, last_labels, number_of, edge_to, edges_of_block, edges_from, edges_of}
+use Rattle.ir_core.specs.Module.{FuncParts}
+use Rattle.ir_flow.specs.Edges.{labels_of, last_labels, number_of, edge_to, edges_from, edges_of}
 use Rattle.ir_flow.specs.Paths.{IsEdge, IsRoute, passes, is_reg, assigns, body_of, assigns_in, is_param, assigned_before, IsAssigned}
-use Rattle.ir_flow.specs.Phis.{HasArm, IsFitting, PhiAt, phi_at, phis_of_body, phis_from, phis_of, Fits, AllFitting}
+use Rattle.ir_flow.specs.Phis.{IsFitting, PhiAt, phi_at, phis_of_body, phis_from, phis_of, AllFitting}
 use Rattle.ir_flow.specs.Uses.{reg_in, reg_in_arg, reg_in_index, reg_in_option, regs_in, arms_in, uses_here, uses_at_end, uses_of_arm, uses_of_inst, uses_of_body, uses_from, uses_of, UseAssigned, AllAssigned}
 use Rattle.ir_check.specs.Blocks.{is_terminator, ends_well, begins_well, enters}
 use Rattle.ir_numbering.specs.Renaming.{Renaming, renamed_loc, renamed_ty, renamed_val, renamed_args, renamed_arms, renamed_cases, renamed_index, renamed_option, renamed_inst, renamed_block, renamed_param, renamed_func}

@@ -1,8 +1,7 @@
 -- A module that keeps the limits keeps them under other numbers, where no function's table of names is too long.
-use Rattle.std.proofs.Common.{ℕ, zero, suc, ◌≡◌, ◌∙◌, ◌+◌, Bool, true, false, not, List, [], ◌∷◌, ◌++◌, map, length, Option, Some, None, slice_get, refl, ap, sym as flip, subst}
-use Rattle.std.specs.Prelude.{nat_lt, if◌then◌else◌}
+use Rattle.std.proofs.Common.{ℕ, ◌≡◌, ◌∙◌, ◌+◌, Bool, not, List, [], ◌∷◌, ◌++◌, map, length, Option, Some, None, refl, ap, sym as flip}
 use Rattle.std.specs.List.{flat_map, list_all}
-use Rattle.std.specs.Option.{option_map, option_map_or, option_or}
+use Rattle.std.specs.Option.{option_map, option_or}
 use Rattle.std.proofs.lemmas.List.{map-append, length-map}
 use Rattle.ir_core.specs.declared.types.Ty.{Ty}
 use Rattle.ir_core.specs.declared.types.TypeId.{TypeId}
@@ -10,7 +9,6 @@ use Rattle.ir_core.specs.declared.types.Loc.{Loc}
 use Rattle.ir_core.specs.declared.types.Width.{Width}
 use Rattle.ir_core.specs.declared.values.Val.{Val}
 use Rattle.ir_core.specs.declared.values.Val.TheVariants as values
-use Rattle.ir_core.specs.declared.values.Declare.{Declare}
 use Rattle.ir_core.specs.declared.values.GlobalVar.{GlobalVar}
 use Rattle.ir_core.specs.declared.values.Init.{Init, map-Init}
 use Rattle.ir_core.specs.declared.values.Init as opened_inits
@@ -18,19 +16,19 @@ use Rattle.ir_core.specs.declared.values.Init.TheFolds.{fold-roll-Init, ind-Init
 use Rattle.ir_core.specs.declared.values.Init.TheOpen.{Init-F}
 use Rattle.ir_core.specs.declared.instruction.Inst.{Inst}
 use Rattle.ir_core.specs.declared.instruction.Inst.TheVariants as insts
-use Rattle.ir_core.specs.Module.{ModuleParts, FuncParts}
-use Rattle.ir_layout.specs.Limits.{limit_of, is_too_large, is_too_deep, limit_among, placed, type_place, global_place, first_of_types, limit_of_global, first_of_globals, globals_end, first_limit}
+use Rattle.ir_core.specs.Module.{ModuleParts}
+use Rattle.ir_layout.specs.Limits.{limit_of, is_too_large, is_too_deep, limit_among, placed, type_place, global_place, first_of_types, limit_of_global, first_of_globals, first_limit}
 use Rattle.ir_layout.specs.Memory.{globals_start, span_at, end_of}
 use Rattle.ir_layout.specs.WrittenTypes.{types_in_val, init_step, types_in_init, types_in_global, types_in_declare, types_in_arg, types_in_arm, types_in_index, types_in_option, types_in_inst, types_in_head}
 use Rattle.ir_layout.specs.declared.limits.LimitKind.{LimitKind}
-use Rattle.ir_layout.specs.declared.limits.LimitKind.TheVariants.{Globals, Params, Registers}
+use Rattle.ir_layout.specs.declared.limits.LimitKind.TheVariants.{Params, Registers}
 use Rattle.ir_lines.specs.Lines.{Line, TypeLine, GlobalLine, DeclareLine, HeadLine, BlockLine, InstLine, code_lines, first_told}
 use Rattle.ir_check.specs.CodeLimits.{over, limit_in, limit_text, broken_limit}
 use Rattle.ir_check.proofs.ModuleLines.{neither, no-image}
 use Rattle.ir_numbering.specs.Renaming.{Renaming, renamed_ty, renamed_sym, renamed_val, renamed_gep, renamed_args, renamed_arms, renamed_index, renamed_option, renamed_init_step, renamed_init, renamed_inst, renamed_param, renamed_global, renamed_declare}
 use Rattle.ir_numbering.specs.Numbers.{renamed_named}
 use Rattle.tx_simulation.proofs.RenamedTypes.{IsApart, limit-same, size-same}
-use Rattle.tx_simulation.proofs.Renames.{Renames, inside}
+use Rattle.tx_simulation.proofs.Renames.{Renames}
 use Rattle.tx_simulation.proofs.RenamedLines.{in_, names_of_func, func_by, renamed_line, code-same, none-told}
 
 -- ---- the types that are written

@@ -1,8 +1,8 @@
 -- The lines of a module under other numbers, and what they define and mention: each name once, and each mentioned one defined, where it was so.
-use Rattle.std.proofs.Common.{ℕ, zero, suc, ◌≡◌, ◌∙◌, ◌+◌, ◌&&◌, ◌||◌, Bool, true, false, not, List, [], ◌∷◌, ◌++◌, map, find, length, Option, Some, None, slice_get, refl, ap, sym as flip, subst, arith}
-use Rattle.std.specs.Prelude.{nat_eq, if◌then◌else◌}
+use Rattle.std.proofs.Common.{ℕ, suc, ◌≡◌, ◌∙◌, ◌+◌, ◌&&◌, Bool, true, false, not, List, [], ◌∷◌, ◌++◌, map, find, length, Option, Some, None, slice_get, refl, ap, sym as flip, arith}
+use Rattle.std.specs.Prelude.{nat_eq}
 use Rattle.std.specs.List.{flat_map, list_any, cons_option}
-use Rattle.std.specs.Option.{option_map, option_map_or, option_or}
+use Rattle.std.specs.Option.{option_map, option_map_or}
 use Rattle.std.proofs.lemmas.Bool.{eqb-true}
 use Rattle.std.proofs.lemmas.List.{map-append}
 use Rattle.ir_check.proofs.ModuleLines.{neither, no-image}
@@ -25,10 +25,10 @@ use Rattle.ir_names.specs.Names.{same_name, defined_in, definitions_in, definiti
 use Rattle.ir_numbering.specs.declared.places.Place.{Place}
 use Rattle.ir_numbering.specs.declared.places.Place.TheVariants.{Local, Struct, Global}
 use Rattle.ir_numbering.specs.Places.{places_of_ty, places_of_global, places_of_declare, places_of_head, places_of_inst}
-use Rattle.ir_numbering.specs.Renaming.{Renaming, renamed_loc, renamed_sym, renamed_type_id, renamed_ty, renamed_inst, renamed_block, renamed_param, renamed_func, renamed_global, renamed_declare}
+use Rattle.ir_numbering.specs.Renaming.{Renaming, renamed_loc, renamed_sym, renamed_type_id, renamed_inst, renamed_block, renamed_param, renamed_func, renamed_global, renamed_declare}
 use Rattle.ir_numbering.specs.Numbers.{renamed_named}
 use Rattle.tx_simulation.proofs.RenamedTypes.{same-test, find-map}
-use Rattle.tx_simulation.proofs.RenamedPlaces.{renamed_place, ty-moved, global-moved, declare-moved, params-moved, inst-moved, both, three}
+use Rattle.tx_simulation.proofs.RenamedPlaces.{renamed_place, ty-moved, global-moved, declare-moved, params-moved, inst-moved, three}
 use Rattle.tx_simulation.proofs.Renames.{Renames, inside, func-at}
 
 pub flat-images : {A B C D : Type 0} (f : A → B) (g : B → List D) (h : A → List C) (k : C → D) → ((x : A) → g (f x) ≡ map k (h x)) → (xs : List A)

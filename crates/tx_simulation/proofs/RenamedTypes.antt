@@ -1,5 +1,5 @@
 -- Types under other numbers of their names: sizes, limits and offsets are the same.
-use Rattle.std.proofs.Common.{ℕ, zero, suc, ◌≡◌, ◌∙◌, ◌+◌, Bool, true, false, List, [], ◌∷◌, map, find, reverse, take, Option, Some, None, slice_get, refl, ap, sym}
+use Rattle.std.proofs.Common.{ℕ, zero, suc, ◌≡◌, ◌∙◌, ◌+◌, ◌&&◌, Bool, true, false, List, [], ◌∷◌, map, find, reverse, take, Option, Some, None, slice_get, refl, ap, sym}
 use mathlib.Core.List.{reverse_aux}
 use Rattle.std.specs.Prelude.{nat_eq, ◌*◌, unwrap_or, if◌then◌else◌}
 use Rattle.std.specs.Option.{option_map, option_and_then}
@@ -12,6 +12,8 @@ use Rattle.ir_core.specs.declared.types.Ty.TheOpen.{Ty-F}
 use Rattle.ir_core.specs.declared.types.Ty.TheViews.{out-Ty, out-roll-Ty, roll-out-Ty}
 use Rattle.ir_core.specs.declared.types.TypeId.{TypeId}
 use Rattle.ir_core.specs.declared.types.Width.{Width}
+use Rattle.ir_core.specs.declared.types.Ty.TheVariants as kinds
+use Rattle.ir_lines.specs.SameTypes.{same_parts, same_layer, same_ty, same_types}
 use Rattle.ir_layout.specs.Shapes.{Shape, shape_step, shape_with, fields_of, array_of, struct_of, within, depth_limit, definition_of, body_shape, named_shape, shape_of, known_shape, size_of, nothing}
 use Rattle.ir_layout.specs.Limits.{limit_of, limit_of_shape}
 use Rattle.ir_layout.specs.Offsets.{fields_step, own_fields, named_fields_step, fields, field_offset, numbered_field, field_at, entered_step, entered, inner_offset, offset_of, signed_word, is_i32}
@@ -203,7 +205,7 @@ module _ (r : Renaming) (apart : IsApart r.type_id) where
         by_definition None = refl
         by_definition (Some named) = own-same named.1
 
-    fields-same : (ty : Ty) → fields others (renamed_ty r ty) ≡ option_map (map (renamed_ty r)) (fields types ty)
+    pub fields-same : (ty : Ty) → fields others (renamed_ty r ty) ≡ option_map (map (renamed_ty r)) (fields types ty)
     fields-same ty = ap (named_fields_step others) (out-renamed r ty) ∙ fields-by (out-Ty ty)
 
     into-fields : (index : Width × ℕ) (o : Option (List Ty)) → option_and_then (field_at others index) (option_map (map (renamed_ty r)) o)
@@ -215,7 +217,7 @@ module _ (r : Renaming) (apart : IsApart r.type_id) where
         by_width true = field-same index.1 parts
         by_width false = refl
 
-    entered-same : (index : Width × ℕ) (ty : Ty) → entered others index (renamed_ty r ty) ≡ option_map renamed_place (entered types index ty)
+    pub entered-same : (index : Width × ℕ) (ty : Ty) → entered others index (renamed_ty r ty) ≡ option_map renamed_place (entered types index ty)
     entered-same index ty = ap (entered_step others index (renamed_ty r ty)) (out-renamed r ty) ∙ by_layer (out-Ty ty)
       where
         inside : option_and_then (field_at others index) (fields others (renamed_ty r ty)) ≡ option_map renamed_place (option_and_then (field_at types index) (fields types ty))
@@ -244,3 +246,67 @@ module _ (r : Renaming) (apart : IsApart r.type_id) where
     pub offset-same : (base : Ty) (indices : List (Width × ℕ)) → offset_of others (renamed_ty r base) indices ≡ offset_of types base indices
     offset-same base [] = refl
     offset-same base (index ∷ indices) = rw (size-same base, inner-same indices base) refl
+
+-- ---- types that are the same
+
+module _ (r : Renaming) (apart : IsApart r.type_id) where
+  abbrev IsSame : Ty → Type 0
+  IsSame ty = (other : Ty) → same_ty (renamed_ty r ty) (renamed_ty r other) ≡ same_ty ty other
+
+  parts-same : (parts : List ((ty : Ty) × IsSame ty)) (tys : List Ty)
+      → same_parts (map same_ty (map (renamed_ty r) (map (λ e. e.0) parts))) (map (renamed_ty r) tys) ≡ same_parts (map same_ty (map (λ e. e.0) parts)) tys
+  parts-same [] [] = refl
+  parts-same [] (ty ∷ tys) = refl
+  parts-same (e ∷ parts) [] = refl
+  parts-same (e ∷ parts) (ty ∷ tys) = rw (e.1 ty, parts-same parts tys) refl
+
+  layers-same : (y : Ty-F ((ty : Ty) × IsSame ty)) (x : Ty-F Ty)
+      → same_layer (map-Ty Ty (Ty → Bool) same_ty (numbered_layer r.type_id (map-Ty Ty Ty (renamed_ty r) (map-Ty ((ty : Ty) × IsSame ty) Ty (λ e. e.0) y)))) (numbered_layer r.type_id (map-Ty Ty Ty (renamed_ty r) x))
+      ≡ same_layer (map-Ty Ty (Ty → Bool) same_ty (map-Ty ((ty : Ty) × IsSame ty) Ty (λ e. e.0) y)) x
+  layers-same (Ty-F.Array count element) (Ty-F.Array many ty) = ap (λ (b : Bool). nat_eq count many && b) (element.1 ty)
+  layers-same (Ty-F.Struct parts) (Ty-F.Struct tys) = parts-same parts tys
+  layers-same (Ty-F.Named id) (Ty-F.Named other) = same-test r.type_id apart id.0 other.0
+  layers-same Ty-F.Void x = void x
+    where
+      void : (x : Ty-F Ty) → same_layer Ty-F.Void (numbered_layer r.type_id (map-Ty Ty Ty (renamed_ty r) x)) ≡ same_layer Ty-F.Void x
+      void Ty-F.Void = refl
+      void other = refl
+  layers-same (Ty-F.Int w) x = int x
+    where
+      int : (x : Ty-F Ty) → same_layer (Ty-F.Int w) (numbered_layer r.type_id (map-Ty Ty Ty (renamed_ty r) x)) ≡ same_layer (Ty-F.Int w) x
+      int (Ty-F.Int v) = refl
+      int other = refl
+  layers-same Ty-F.Ptr x = ptr x
+    where
+      ptr : (x : Ty-F Ty) → same_layer Ty-F.Ptr (numbered_layer r.type_id (map-Ty Ty Ty (renamed_ty r) x)) ≡ same_layer Ty-F.Ptr x
+      ptr Ty-F.Ptr = refl
+      ptr other = refl
+  layers-same y x = refl
+
+  pub type-same : (a b : Ty) → same_ty (renamed_ty r a) (renamed_ty r b) ≡ same_ty a b
+  type-same = ind-Ty IsSame (λ x y is other.
+      ap (λ (ty : Ty). same_ty ty (renamed_ty r other)) (renamed-layer r x ∙ step-is r.type_id (map-Ty Ty Ty (renamed_ty r) x))
+      ∙ ap (λ (f : Ty → Bool). f (renamed_ty r other)) (fold-roll-Ty (Ty → Bool) (λ layer ty. same_layer layer (out-Ty ty)) (numbered_layer r.type_id (map-Ty Ty Ty (renamed_ty r) x)))
+      ∙ ap (same_layer (map-Ty Ty (Ty → Bool) same_ty (numbered_layer r.type_id (map-Ty Ty Ty (renamed_ty r) x)))) (out-renamed r other)
+      ∙ ap (λ (z : Ty-F Ty). same_layer (map-Ty Ty (Ty → Bool) same_ty (numbered_layer r.type_id (map-Ty Ty Ty (renamed_ty r) z))) (numbered_layer r.type_id (map-Ty Ty Ty (renamed_ty r) (out-Ty other)))) (sym is)
+      ∙ layers-same y (out-Ty other)
+      ∙ ap (λ (z : Ty-F Ty). same_layer (map-Ty Ty (Ty → Bool) same_ty z) (out-Ty other)) is
+      ∙ sym (ap (λ (f : Ty → Bool). f other) (fold-roll-Ty (Ty → Bool) (λ layer ty. same_layer layer (out-Ty ty)) x)))
+
+  pub all-same : (xs ys : List Ty) → same_types (map (renamed_ty r) xs) (map (renamed_ty r) ys) ≡ same_types xs ys
+  all-same [] [] = refl
+  all-same [] (y ∷ ys) = refl
+  all-same (x ∷ xs) [] = refl
+  all-same (x ∷ xs) (y ∷ ys) = rw (type-same x y, all-same xs ys) refl
+
+  pub void-again : renamed_ty r kinds.Void ≡ kinds.Void
+  unfolding opened.roll-Ty denote.Hole.Carrier.roll
+  void-again = fold-roll-Ty Ty (renamed_step r.type_id) Ty-F.Void
+
+  pub int-again : (w : Width) → renamed_ty r (kinds.Int w) ≡ kinds.Int w
+  unfolding opened.roll-Ty denote.Hole.Carrier.roll
+  int-again w = fold-roll-Ty Ty (renamed_step r.type_id) (Ty-F.Int w)
+
+  pub ptr-again : renamed_ty r kinds.Ptr ≡ kinds.Ptr
+  unfolding opened.roll-Ty denote.Hole.Carrier.roll
+  ptr-again = fold-roll-Ty Ty (renamed_step r.type_id) Ty-F.Ptr

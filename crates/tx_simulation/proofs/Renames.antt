@@ -7,20 +7,15 @@ use Rattle.std.specs.Prelude.{nat_eq, unwrap_or}
 use Rattle.std.specs.List.{slice_index_or, range_with_len, position, position_or_len}
 use Rattle.std.specs.Option.{option_map_or}
 use Rattle.std.proofs.lemmas.Option.{unwrap_or-slice_get}
-use Rattle.ir_core.specs.declared.types.Ty.{Ty, map-Ty}
-use Rattle.ir_core.specs.declared.types.Ty as opened
+use Rattle.ir_core.specs.declared.types.Ty.{Ty}
 use Rattle.ir_core.specs.declared.types.Ty.TheVariants as types
-use Rattle.ir_core.specs.declared.types.Ty.TheFolds.{fold-roll-Ty}
-use Rattle.ir_core.specs.declared.types.Ty.TheOpen.{Ty-F}
-use Rattle.ir_core.specs.declared.types.Ty.TheViews.{out-Ty, out-roll-Ty, roll-out-Ty}
 use Rattle.ir_core.specs.declared.types.Sym.{Sym}
 use Rattle.ir_core.specs.declared.types.Loc.{Loc}
-use Rattle.ir_core.specs.declared.types.Width.{Width}
 use Rattle.ir_core.specs.declared.types.Width.TheVariants.{W32}
 use Rattle.ir_core.specs.Module.{ModuleParts, FuncParts}
 use Rattle.ir_layout.specs.Memory.{LayoutParts, layout_of, globals_start}
 use Rattle.ir_layout.specs.declared.spans.Span.{Span}
-use Rattle.ir_lines.specs.SameTypes.{same_ty, same_layer}
+use Rattle.ir_lines.specs.SameTypes.{same_ty}
 use Rattle.ir_check.specs.Functions.{is_empty, is_main}
 use Rattle.ir_numbering.specs.Renaming.{Renaming, renamed_loc, renamed_sym, renamed_ty, renamed_block, renamed_param, renamed_func, renamed_global, renamed_declare}
 use Rattle.ir_numbering.specs.Numbers.{renamed_named}
@@ -28,7 +23,7 @@ use Rattle.inst_meaning.specs.declared.actions.Callee.{Callee}
 use Rattle.inst_meaning.specs.declared.actions.Callee.TheVariants.{Unknown}
 use Rattle.inst_meaning.specs.Action.{numbered_function, callee_of, callees_of}
 use Rattle.src_meaning.specs.State.{blocks_at, params_at, main_of}
-use Rattle.tx_simulation.proofs.RenamedTypes.{IsApart, same-test, numbered_layer, out-renamed}
+use Rattle.tx_simulation.proofs.RenamedTypes.{IsApart, same-test, type-same, int-again}
 use Rattle.tx_simulation.proofs.RenamedMemory.{renamed_layout, spans-same}
 
 -- ---- modules
@@ -78,28 +73,7 @@ table-at make d (x ∷ xs) start zero = let same : start ≡ start + 0 = omega a
 table-at make d (x ∷ xs) start (suc k) = let same : start + 1 + k ≡ start + suc k = omega arith in
     table-at make d xs (start + 1) k ∙ ap (λ (n : ℕ). option_map_or (λ x. make n) (slice_get xs k) d) same
 
--- ---- an integer type
-
-by-layer : (r : Renaming) (w : Width) (x : Ty-F Ty)
-    → same_layer (map-Ty Ty (Ty → Bool) same_ty (numbered_layer r.type_id (map-Ty Ty Ty (renamed_ty r) x))) (Ty-F.Int w) ≡ same_layer (map-Ty Ty (Ty → Bool) same_ty x) (Ty-F.Int w)
-by-layer r w Ty-F.Void = refl
-by-layer r w (Ty-F.Int v) = refl
-by-layer r w Ty-F.Ptr = refl
-by-layer r w (Ty-F.Array count element) = refl
-by-layer r w (Ty-F.Struct parts) = refl
-by-layer r w (Ty-F.Named id) = refl
-
-layered : (ty : Ty) (w : Width) → same_ty ty (types.Int w) ≡ same_layer (map-Ty Ty (Ty → Bool) same_ty (out-Ty ty)) (Ty-F.Int w)
-unfolding opened.roll-Ty denote.Hole.Carrier.roll
-layered ty w =
-    ap (λ (t : Ty). same_ty t (types.Int w)) (flip (roll-out-Ty ty))
-    ∙ ap (λ (f : Ty → Bool). f (types.Int w)) (fold-roll-Ty (Ty → Bool) (λ layer other. same_layer layer (out-Ty other)) (out-Ty ty))
-    ∙ ap (same_layer (map-Ty Ty (Ty → Bool) same_ty (out-Ty ty))) (out-roll-Ty (Ty-F.Int w))
-
-int-same : (r : Renaming) (ty : Ty) (w : Width) → same_ty (renamed_ty r ty) (types.Int w) ≡ same_ty ty (types.Int w)
-int-same r ty w =
-    layered (renamed_ty r ty) w ∙ ap (λ (x : Ty-F Ty). same_layer (map-Ty Ty (Ty → Bool) same_ty x) (Ty-F.Int w)) (out-renamed r ty)
-    ∙ by-layer r w (out-Ty ty) ∙ flip (layered ty w)
+-- ---- parameters
 
 none-same : {A B : Type 0} (f : A → B) (xs : List A) → is_empty (map f xs) ≡ is_empty xs
 none-same f [] = refl
@@ -170,10 +144,8 @@ module _ (m other : ModuleParts) (r : Renames m other) where
 
   -- ---- `main`
 
+  pub main-of : (n : ℕ) (f g : FuncParts) → slice_get m.funcs n ≡ Some f → slice_get other.funcs n ≡ Some g → is_main other g ≡ is_main m f
+  main-of n f g at there = ap (is_main other) (func-at n f g at there) ∙ rw (r.names f.sym.0, ap (same_ty (renamed_ty (inside n) f.ret)) (flip (int-again (inside n) r.type_apart W32)) ∙ type-same (inside n) r.type_apart f.ret (types.Int W32), none-same (renamed_param (inside n)) f.params) refl
+
   pub main-same : main_of other ≡ main_of m
-  main-same = ap (λ (o : Option ℕ). unwrap_or o 0) (position-same (is_main m) (is_main other) m.funcs other.funcs r.count
-      (λ n f g at there. ap (is_main other) (func-at n f g at there) ∙ renamed-main f (inside n) g.names refl refl))
-    where
-      renamed-main : (f : FuncParts) (q : Renaming) (names : List (List ℕ)) → q.sym ≡ r.outer.sym → q.type_id ≡ r.outer.type_id
-          → is_main other (record (renamed_func q f) { names = names }) ≡ is_main m f
-      renamed-main f q names e g = rw (e, r.names f.sym.0, int-same q f.ret W32, none-same (renamed_param q) f.params) refl
+  main-same = ap (λ (o : Option ℕ). unwrap_or o 0) (position-same (is_main m) (is_main other) m.funcs other.funcs r.count main-of)

@@ -142,7 +142,7 @@ named-there from number condition target body heads e = by_first (first_compared
 -- ---- directions
 
 -- a conditional branch goes one way or the other
-one-way : (first second label : Loc) (o : Option ℕ) → on_word o (λ c. Jump (if c == 1 then first else second)) ≡ Jump label → (label ≡ first) ⊎ (label ≡ second)
+pub one-way : (first second label : Loc) (o : Option ℕ) → on_word o (λ c. Jump (if c == 1 then first else second)) ≡ Jump label → (label ≡ first) ⊎ (label ≡ second)
 one-way first second label None e = cc
 one-way first second label (Some n) e = by_test (n == 1) e
   where
@@ -150,7 +150,7 @@ one-way first second label (Some n) e = by_test (n == 1) e
     by_test true f = inl cc
     by_test false f = inr cc
 
-is-label : (first second label : Loc) → (label ≡ first) ⊎ (label ≡ second) → IsIn label (first ∷ second ∷ [])
+pub is-label : (first second label : Loc) → (label ≡ first) ⊎ (label ≡ second) → IsIn label (first ∷ second ∷ [])
 is-label first second label (inl e) = (0, ap (λ (at : Loc). Some at) (sym e))
 is-label first second label (inr e) = (1, ap (λ (at : Loc). Some at) (sym e))
 
