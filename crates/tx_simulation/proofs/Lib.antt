@@ -47,3 +47,4 @@ pub mod Quiet
 pub mod Doubles
 pub mod Once
 pub mod InsideActions
+pub mod Singles
