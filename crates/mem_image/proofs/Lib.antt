@@ -10,6 +10,7 @@ pub mod Placed
 mod Records
 mod Spliced
 pub mod ViewBytes
+pub mod OneByte
 pub mod Views
 pub mod WholeOpening
-mod Words
+pub mod Words
