@@ -8,6 +8,7 @@ pub mod LineBuffers
 mod NumberBytes
 pub mod Placed
 mod Records
+pub mod SeenBytes
 mod Spliced
 pub mod ViewBytes
 pub mod OneByte

@@ -1,0 +1,4 @@
+pub mod Fields
+pub mod LineLists
+pub mod Others
+pub mod WrittenBytes
