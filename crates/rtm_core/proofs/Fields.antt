@@ -72,3 +72,7 @@ module _ {C : Type 0} where
 
   pub seen-same : (mem : Memory) (a n : ℕ) (s t : Option (Transaction C)) → s ≡ t → read_of (seen_in s mem) a n ≡ read_of (seen_in t mem) a n
   seen-same mem a n s t e = ap (λ (tx : Option (Transaction C)). read_of (seen_in tx mem) a n) e
+
+pub and-right : (b c : Bool) → (b && c) ≡ true → c ≡ true
+and-right true c e = e
+and-right false c e = absurd cc

@@ -233,3 +233,21 @@ with-new ws new bs n i buffer all none room is place fresh =
     ap (λ (ns : List ℕ). lines_of ns (set bs i buffer)) (is ∙ new-member ws n none) ∙ ap (λ (j : ℕ). lines_of (ws ++ n ∷ []) (set bs j buffer)) place
     ∙ ap (λ (b : List (Option ℕ)). lines_of (ws ++ n ∷ []) (set bs (length ws) b)) fresh
     ∙ opened-new ws bs n (omega (arith, room-left ws n room none, all.count)) none
+
+-- a word is put into the buffer of its line
+pub word-put : (ws vs : List ℕ) (bs cs : Buffers) (a n w i : ℕ) (b new : List (Option ℕ)) → length vs ≤ length cs → AreLines (lines_of vs cs) → lines_of vs cs ≡ opened (lines_of ws bs) (line_of a)
+    → place_in vs (line_of a) ≡ Some i → b ≡ get_or cs i [] → new ≡ marked_with b (a % line_size) n w → lines_of vs (set cs i new) ≡ lines_with (opened (lines_of ws bs) (line_of a)) a n w
+word-put ws vs bs cs a n w i b new few all lines place is put =
+    ap (λ (x : List (Option ℕ)). lines_of vs (set cs i x)) (put ∙ ap (λ (x : List (Option ℕ)). marked_with x (a % line_size) n w) is)
+    ∙ sym (lines-stored vs cs a n w i few all (is-first vs (line_of a) i place)) ∙ ap (λ (more : List Line). lines_with more a n w) lines
+
+pub buffers-put : (vs : List ℕ) (cs : Buffers) (a n w i : ℕ) (b new : List (Option ℕ)) → HasBuffers vs cs → length vs ≤ length cs → place_in vs (line_of a) ≡ Some i → b ≡ get_or cs i []
+    → a % line_size + n ≤ line_size → new ≡ marked_with b (a % line_size) n w → HasBuffers vs (set cs i new)
+buffers-put vs cs a n w i b new all few place is fits put =
+    let first = is-first vs (line_of a) i place in
+    let long : length b ≡ line_size = ap length is ∙ buffer-long vs cs i first.within few all.lines in
+    record {
+      count = length-set cs i new ∙ all.count;
+      few = all.few;
+      lines = lines-set vs cs i new all.lines (ap length put ∙ length-marked b (a % line_size) n w long fits);
+    }
