@@ -68,6 +68,22 @@ impl Image {
         })
     }
 
+    /// The same memory once more. It takes three areas of memory.
+    pub fn copy(&self, alloc: Global) -> Result<Image, AllocError>
+        ensures { IfOk result (λ image. image ≡ self.now) }
+    {
+        let places = self.places.copy(alloc)?;
+        let globals = Vec::from_slice(alloc, self.globals.as_slice())?;
+        let stacks = Vec::from_slice(alloc, self.stacks.as_slice())?;
+        let heap = Vec::from_slice(alloc, self.heap.as_slice())?;
+        Ok(Image {
+            places,
+            globals,
+            stacks,
+            heap,
+        })
+    }
+
     // The bytes of an area.
     fn area(&self, area: Area) -> &[u8]
         ensures bytes { result.now ≡ bytes_in self.now area }
