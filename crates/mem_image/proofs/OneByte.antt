@@ -1,18 +1,16 @@
 -- One byte more: a byte put into an area is seen as a byte that was written, and what is written after something else is seen as both.
 use Rattle.std.proofs.Common.{◌≡◌, ◌≢◌, ◌∙◌, ℕ, zero, suc, ◌+◌, ◌-◌, ◌<◌, ◌≤◌, Bool, true, false, List, [], ◌∷◌, length, take, drop, set, Option, Some, None, nat_eq, refl, sym, ap, arith, inl, inr}
 use Rattle.std.specs.Prelude.{◌⊎◌, unwrap_or, if◌then◌else◌, nat_lt, nat_le, ◌&&◌}
-use Rattle.std.proofs.lemmas.Bool.{cases_lt, eqb-true, eqb-false}
+use Rattle.std.proofs.lemmas.Bool.{cases_lt}
 use Rattle.std.proofs.lemmas.Bool.Decides.{nat_tests}
 use Rattle.std.proofs.lemmas.Option.{some_pair_parts}
 use Rattle.ir_layout.specs.Memory.{area_size, is_valid, globals_start, stacks_start, heap_start}
 use Rattle.mem_image.specs.declared.areas.Area.{Area}
 use Rattle.mem_image.specs.declared.areas.Area.TheVariants.{Globals, Stacks, Heap}
 use Rattle.mem_image.specs.Bytes.{Memory, IsWhole, byte_place, place_of_access, bytes_of, area_of, start_of, place_of, bytes_in, with_bytes}
-use Rattle.mem_image.specs.Views.{Written, nothing_written, one_byte, only_if, overlaid, view}
+use Rattle.mem_image.specs.Views.{Written, one_byte, only_if, overlaid, view}
 use Rattle.mem_image.proofs.Inside.{is-heap}
 use Rattle.mem_image.proofs.Records.{same_memory}
-use Rattle.mem_image.proofs.ViewBytes.{overlaid-nothing}
-use Rattle.mem_image.proofs.Views.{view-nothing}
 
 -- ---- the same bytes are seen the same
 

@@ -3,7 +3,7 @@ use Rattle.std.proofs.Common.{◌≡◌, ◌∙◌, ℕ, ◌+◌, ◌<◌, ◌�
 use Rattle.std.specs.Prelude.{unwrap_or, if◌then◌else◌}
 use Rattle.std.proofs.lemmas.List.{get_or-drop, get_or-take, length-take, length-drop}
 use Rattle.byteorder.specs.Endian.{little_number}
-use Rattle.ir_layout.specs.Memory.{is_valid, area_size}
+use Rattle.ir_layout.specs.Memory.{is_valid}
 use Rattle.mem_image.specs.declared.areas.Area.{Area}
 use Rattle.mem_image.specs.declared.areas.Area.TheVariants.{Globals, Stacks, Heap}
 use Rattle.mem_image.specs.Bytes.{Memory, IsWhole, area_of, start_of, place_of, bytes_in, bytes_of, peek}

@@ -1,23 +1,23 @@
 -- What a thread's place shows of its fields.
-use Rattle.std.proofs.Common.{◌≡◌, ◌∙◌, ℕ, zero, suc, ◌+◌, ◌%◌, ◌<◌, ◌≤◌, Bool, true, false, not, ◌&&◌, ◌||◌, List, [], ◌∷◌, length, take, drop, set, Option, Some, None, is_some, slice_get, slice_index, slice_index_or, get_or, nat_eq, refl, sym, ap, subst, arith}
+use Rattle.std.proofs.Common.{◌≡◌, ◌∙◌, ℕ, ◌+◌, ◌%◌, ◌<◌, ◌≤◌, Bool, true, false, not, ◌&&◌, ◌||◌, List, [], length, Option, Some, None, is_some, get_or, refl, sym, ap, arith}
 use Rattle.std.specs.Prelude.{unwrap_or, if◌then◌else◌}
-use Rattle.std.specs.Option.{option_flatten, option_map}
+use Rattle.std.specs.Option.{option_map}
 use Rattle.byteorder.specs.Endian.{little_number}
-use Rattle.ir_layout.specs.Memory.{is_valid, area_size}
+use Rattle.ir_layout.specs.Memory.{is_valid}
 use Rattle.line_sets.specs.Sets.{has, takes, place_in}
 use Rattle.mem_image.specs.Agreement.{byte_at}
-use Rattle.mem_image.specs.Bytes.{Memory, IsWhole, area_of, start_of, place_of, bytes_in, bytes_of, peek, poke, read_of, written}
-use Rattle.mem_image.specs.Lines.{Line, AreLines, line_of, line_size, numbers, is_open, written_in}
-use Rattle.mem_image.specs.Touches.{Touch, Store}
-use Rattle.mem_image.specs.Views.{Written, overlaid, view}
-use Rattle.mem_image.proofs.AccessLines.{same-line, within-line, size-cases}
+use Rattle.mem_image.specs.Bytes.{Memory, IsWhole, bytes_of, peek, read_of}
+use Rattle.mem_image.specs.Lines.{line_of, line_size, is_open, written_in}
+use Rattle.mem_image.specs.Touches.{Touch}
+use Rattle.mem_image.specs.Views.{overlaid, view}
+use Rattle.mem_image.proofs.AccessLines.{same-line, within-line}
 use Rattle.mem_image.proofs.Agreement.{peek-agrees}
 use Rattle.mem_image.proofs.SeenBytes.{seen-word}
 use Rattle.mem_image.proofs.Views.{view-byte}
-use Rattle.rtm_core.specs.Footprint.{read_limit, write_limit, written_lines}
+use Rattle.rtm_core.specs.Footprint.{read_limit, write_limit}
 use Rattle.rtm_core.specs.Transactions.{Transaction, meets, has_room_in, seen_in}
 use Rattle.rtm_core.specs.code.Slots.{lines_of, held_in, HasBuffers, transaction_of}
-use Rattle.rtm_core.proofs.LineLists.{Buffers, IsFirst, is-first, numbers-of, open-has, bytes-at, bytes-none}
+use Rattle.rtm_core.proofs.LineLists.{Buffers, is-first, numbers-of, open-has, bytes-at, bytes-none}
 
 pub few-lines : (ws : List ℕ) (bs : Buffers) → HasBuffers ws bs → length ws ≤ length bs
 few-lines ws bs all = omega (arith, all.count, all.few)

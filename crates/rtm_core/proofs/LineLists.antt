@@ -1,23 +1,22 @@
 -- Lines with their buffers: one is opened, a word is stored in one, and all are put into memory.
-use Rattle.std.proofs.Common.{◌≡◌, ◌≢◌, ◌∙◌, ℕ, zero, suc, ◌+◌, ◌%◌, ◌<◌, ◌≤◌, Bool, true, false, not, ◌&&◌, ◌||◌, List, [], ◌∷◌, ◌++◌, map, length, set, drop, take, Option, Some, None, is_some, slice_get, slice_index, get_or, cond, nat_eq, nat_lt, refl, sym, ap, subst, arith, length-append, replicate}
+use Rattle.std.proofs.Common.{◌≡◌, ◌∙◌, ℕ, zero, suc, ◌+◌, ◌%◌, ◌<◌, ◌≤◌, Bool, true, false, ◌||◌, List, [], ◌∷◌, ◌++◌, map, length, set, drop, take, Option, Some, None, is_some, slice_get, slice_index, get_or, cond, nat_eq, nat_lt, refl, sym, ap, arith, length-append, replicate}
 use Rattle.std.specs.Prelude.{unwrap_or}
-use Rattle.std.specs.List.{list_any, find, position_or_len}
+use Rattle.std.specs.List.{find, position_or_len}
 use Rattle.std.specs.Option.{option_and_then, option_flatten}
 use Rattle.std.proofs.lemmas.Bool.{eqb-true, eqb-false}
 use Rattle.std.proofs.lemmas.Bool.Decides.{nat_tests}
-use Rattle.std.proofs.lemmas.List.{length-take, length-drop, length-map, length-replicate}
+use Rattle.std.proofs.lemmas.List.{length-take, length-drop, length-map}
 use Rattle.std.proofs.lemmas.List.Quantifiers.{position-Some}
-use Rattle.std.proofs.Math.ListN.{drop_of_length-le, length-set}
+use Rattle.std.proofs.Math.ListN.{length-set}
 use Rattle.std.proofs.Math.Seq.{get_or-append_seam}
 use Rattle.std.proofs.lemmas.List.Sums.{position_or_len_is}
 use Rattle.byteorder.specs.Endian.{little_bytes}
 use Rattle.byteorder.specs.Numbers.{length-bytes_low_first}
-use Rattle.line_sets.specs.Sets.{has, place_in, with_member, added_unless, takes, NoRepeats}
-use Rattle.line_sets.proofs.Chains.{has-place, place-at}
+use Rattle.line_sets.specs.Sets.{has, place_in, with_member, added_unless, takes}
+use Rattle.line_sets.proofs.Chains.{has-place}
 use Rattle.mem_image.specs.Bytes.{Memory}
-use Rattle.mem_image.specs.Lines.{Line, AreLines, line_size, line_of, numbers, blank, is_open, opened, opened_unless, marked_with, stored_if, stored_in, lines_with, written_in}
-use Rattle.mem_image.specs.Views.{Written, view}
-use Rattle.mem_image.proofs.LineBuffers.{opened-lines}
+use Rattle.mem_image.specs.Lines.{Line, AreLines, line_size, line_of, numbers, blank, is_open, opened, opened_unless, marked_with, stored_if, lines_with, written_in}
+use Rattle.mem_image.specs.Views.{view}
 use Rattle.mem_image.proofs.OneByte.{view-twice}
 use Rattle.rtm_core.specs.code.Slots.{lines_of, held_in, HasBuffers}
 

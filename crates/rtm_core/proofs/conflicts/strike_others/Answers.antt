@@ -1,4 +1,4 @@
-use Rattle.std.proofs.Common.{◌≡◌, ◌∙◌, ◌<◌, ◌≤◌, ap, sym, arith, length, get_or, None}
+use Rattle.std.proofs.Common.{◌≡◌, ◌∙◌, ◌<◌, ◌≤◌, sym, arith, length, get_or, None}
 use Rattle.std.proofs.lemmas.List.{get_or_default}
 use Rattle.rtm_core.specs.Calls.{touch_of}
 use Rattle.rtm_core.proofs.Others.{spared-next, spared-done, struck-next, struck-done}

@@ -1,13 +1,12 @@
-use Rattle.std.proofs.Common.{◌≡◌, ◌∙◌, ◌<◌, ap, sym, arith, false, ℕ, List, [], ◌∷◌, ◌++◌, Option, Some, None, length, set, slice_set, length-append, subst, true}
+use Rattle.std.proofs.Common.{◌≡◌, ◌∙◌, ◌<◌, ap, sym, arith, false, ℕ, List, [], ◌∷◌, Some, length, length-append, subst, true}
 use Rattle.std.proofs.lemmas.Grind.{common_steps}
 use Rattle.std.proofs.Math.ListN.{length-set}
 use Rattle.line_sets.specs.Sets.{has, place_in, with_member}
-use Rattle.line_sets.proofs.Chains.{place-at}
-use Rattle.mem_image.specs.Lines.{AreLines, line_size, opened}
+use Rattle.mem_image.specs.Lines.{AreLines}
 use Rattle.mem_image.proofs.LineBuffers.{opened-lines}
-use Rattle.rtm_core.specs.code.Slots.{HasBuffers, lines_of}
+use Rattle.rtm_core.specs.code.Slots.{lines_of}
 use Rattle.rtm_core.proofs.Fields.{few-lines}
-use Rattle.rtm_core.proofs.LineLists.{new-member, opened-new, opened-same, place-last, place-none, room-left, with-new}
+use Rattle.rtm_core.proofs.LineLists.{new-member, opened-same, place-last, place-none, room-left, with-new}
 use Rattle.rtm_core.proofs.slots.open_line.Goals as goal
 
 pub returns-in-Some-clause-lines : goal.returns-in-Some-clause-lines

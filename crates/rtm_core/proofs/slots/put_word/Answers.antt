@@ -1,4 +1,4 @@
-use Rattle.std.proofs.Common.{◌≡◌, ◌∙◌, ◌<◌, ◌≤◌, ap, sym, arith, Bool, true, ℕ, List, [], Option, length, get_or}
+use Rattle.std.proofs.Common.{◌≡◌, ◌∙◌, ◌≤◌, ap, sym, arith, Bool, true, ℕ, List, [], Option, length, get_or}
 use Rattle.std.proofs.lemmas.List.{get_or_default}
 use Rattle.mem_image.specs.Accesses.{bytes}
 use Rattle.mem_image.specs.Lines.{Line, line_of, lines_with, opened_where}

@@ -1,4 +1,4 @@
-use Rattle.std.proofs.Common.{◌≡◌, ◌∙◌, ◌+◌, ◌-◌, ap, sym, ℕ, List, Option, Some, take, drop}
+use Rattle.std.proofs.Common.{◌∙◌, ◌+◌, ◌-◌, ap, sym, ℕ, List, Some, take, drop}
 use Rattle.mem_image.specs.Accesses.{bytes}
 use Rattle.mem_image.proofs.OneByte.{bytes-there}
 use Rattle.mem_image.proofs.images.Image.bytes.Goals as goal

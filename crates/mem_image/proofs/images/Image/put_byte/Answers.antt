@@ -1,7 +1,7 @@
-use Rattle.std.proofs.Common.{◌≡◌, ◌∙◌, ◌+◌, ◌*◌, ap, sym, ℕ, Option, Some, None}
+use Rattle.std.proofs.Common.{◌∙◌, ◌+◌, ◌*◌, ap, sym, Some, None}
 use Rattle.mem_image.specs.declared.areas.Area.{Area}
 use Rattle.mem_image.specs.declared.areas.Area.TheVariants.{Globals, Stacks, Heap}
-use Rattle.mem_image.specs.Bytes.{Memory, byte_place}
+use Rattle.mem_image.specs.Bytes.{Memory}
 use Rattle.mem_image.specs.Lines.{line_size}
 use Rattle.mem_image.specs.Views.{one_byte, view}
 use Rattle.mem_image.proofs.OneByte.{byte-seen}

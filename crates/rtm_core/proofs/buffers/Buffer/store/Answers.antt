@@ -1,4 +1,4 @@
-use Rattle.std.proofs.Common.{◌≡◌, ◌∙◌, ◌+◌, ap, sym, arith, ℕ, List, Option, Some, slice_index, set, length}
+use Rattle.std.proofs.Common.{◌∙◌, ◌+◌, ap, arith, ℕ, List, Some, slice_index, set}
 use Rattle.mem_image.specs.Accesses.{bytes}
 use Rattle.rtm_core.proofs.WrittenBytes.{few-bytes, next-byte}
 use Rattle.rtm_core.proofs.buffers.Buffer.store.Goals as goal

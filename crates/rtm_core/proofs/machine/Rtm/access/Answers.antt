@@ -1,4 +1,4 @@
-use Rattle.std.proofs.Common.{◌≡◌, ◌∙◌, ◌<◌, ◌++◌, ap, sym, arith, ℕ, List, length, Bool, true, false}
+use Rattle.std.proofs.Common.{◌≡◌, ◌∙◌, ◌<◌, ◌++◌, ap, sym, arith, ℕ, List, length, true, false}
 use Rattle.rtm_core.specs.declared.Aborted.{Aborted}
 use Rattle.rtm_core.specs.Calls.{touch_of, store_of, got_of, conflict_aborts}
 use Rattle.rtm_core.specs.Transactions.{Entry, entry_of, struck_from}

@@ -1,4 +1,4 @@
-use Rattle.std.proofs.Common.{◌≡◌, ◌∙◌, ◌<◌, ap, sym, arith, ℕ, Option, length, true}
+use Rattle.std.proofs.Common.{◌∙◌, ◌<◌, ap, sym, arith, ℕ, Option, length}
 use Rattle.ir_layout.specs.Memory.{is_valid}
 use Rattle.mem_image.specs.Accesses.{bytes}
 use Rattle.mem_image.specs.Touches.{memory_with}

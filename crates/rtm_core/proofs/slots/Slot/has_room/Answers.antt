@@ -1,4 +1,4 @@
-use Rattle.std.proofs.Common.{◌≡◌, ◌∙◌, ap, Bool, not, ◌&&◌, ◌||◌, ◌/◌}
+use Rattle.std.proofs.Common.{◌∙◌, ap, Bool, not, ◌&&◌, ◌||◌, ◌/◌}
 use Rattle.line_sets.specs.Sets.{takes}
 use Rattle.rtm_core.specs.Footprint.{read_limit}
 use Rattle.rtm_core.specs.Calls.{touch_of}

@@ -1,4 +1,4 @@
-use Rattle.std.proofs.Common.{◌≡◌, ◌∙◌, ap, Bool, ◌&&◌, ◌||◌, ◌/◌}
+use Rattle.std.proofs.Common.{◌∙◌, ap, Bool, ◌&&◌, ◌||◌, ◌/◌}
 use Rattle.line_sets.specs.Sets.{has}
 use Rattle.rtm_core.specs.Calls.{touch_of}
 use Rattle.rtm_core.specs.Transactions.{meets}

@@ -1,8 +1,6 @@
-use Rattle.std.proofs.Common.{◌≡◌, ◌∙◌, ap, sym, arith, ◌<◌, ◌≤◌, ◌/◌, length, get_or, [], ℕ, List, Option, Some}
+use Rattle.std.proofs.Common.{◌≡◌, ◌∙◌, ap, sym, arith, ◌<◌, ◌≤◌, ◌/◌, length, get_or, [], Some}
 use Rattle.std.proofs.lemmas.List.{get_or_default}
-use Rattle.std.specs.Option.{option_copied}
 use Rattle.mem_image.specs.Accesses.{bytes}
-use Rattle.mem_image.specs.Bytes.{bytes_of}
 use Rattle.mem_image.proofs.SeenBytes.{old-long}
 use Rattle.rtm_core.specs.code.Slots.{transaction_of}
 use Rattle.rtm_core.proofs.Fields.{few-lines, read-buffered, read-unwritten, seen-same}

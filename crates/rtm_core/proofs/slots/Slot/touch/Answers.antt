@@ -1,4 +1,4 @@
-use Rattle.std.proofs.Common.{◌≡◌, ◌∙◌, ap, sym, Bool, true, false, not, ◌&&◌, ◌||◌}
+use Rattle.std.proofs.Common.{◌∙◌, ap, not, ◌||◌}
 use Rattle.line_sets.specs.Sets.{takes}
 use Rattle.mem_image.specs.Lines.{line_of}
 use Rattle.rtm_core.specs.Calls.{touch_of}
