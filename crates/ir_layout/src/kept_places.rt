@@ -34,6 +34,13 @@ impl GlobalPlaces {
         Ok(GlobalPlaces { spans })
     }
 
+    /// These places, in memory of their own.
+    pub fn copy(&self, alloc: Global) -> Result<GlobalPlaces, AllocError>
+        ensures { IfOk result (λ places. places ≡ self.now) }
+    {
+        GlobalPlaces::copy_of(alloc, self.spans.as_slice())
+    }
+
     /// Whether an access of so many bytes at an address is valid.
     pub fn valid(&self, addr: u64, size: u64) -> bool
         ensures { result ≡ is_valid self.now addr size }

@@ -8,8 +8,10 @@ pub mod LineBuffers
 mod NumberBytes
 pub mod Placed
 mod Records
+pub mod SeenBytes
 mod Spliced
 pub mod ViewBytes
+pub mod OneByte
 pub mod Views
 pub mod WholeOpening
-mod Words
+pub mod Words

@@ -199,7 +199,7 @@ blank-lines (line ∷ lines) number all absent =
       blank-lines lines number all.2 both.1,
     )
 
-opened-lines : (writes : Bool) (lines : List Line) (number : ℕ) → AreLines lines → AreLines (opened_where writes lines number)
+pub opened-lines : (writes : Bool) (lines : List Line) (number : ℕ) → AreLines lines → AreLines (opened_where writes lines number)
 opened-lines false lines number all = all
 opened-lines true lines number all = by_test (is_open lines number) refl
   where

@@ -55,7 +55,7 @@ overlaid-get written at (b ∷ bs) (suc i) =
     let e : suc at + i ≡ at + suc i = omega arith in
     overlaid-get written (suc at) bs i ∙ ap (λ (x : ℕ). option_map (unwrap_or (written x)) (slice_get bs i)) e
 
-overlaid-at : (written : Written) (at : ℕ) (bs : List ℕ) (i : ℕ) → i < length bs → slice_index (overlaid written at bs) i ≡ unwrap_or (written (at + i)) (slice_index bs i)
+pub overlaid-at : (written : Written) (at : ℕ) (bs : List ℕ) (i : ℕ) → i < length bs → slice_index (overlaid written at bs) i ≡ unwrap_or (written (at + i)) (slice_index bs i)
 overlaid-at written at [] i below = absurd (omega (arith, below))
 overlaid-at written at (b ∷ bs) zero below = let e : at ≡ at + 0 = omega arith in ap (λ (x : ℕ). unwrap_or (written x) b) e
 overlaid-at written at (b ∷ bs) (suc i) below =

@@ -2,7 +2,7 @@
 --
 -- Choices: the bytes of globals, of stacks and of the heap are there from the start. A word stands with its lowest byte first.
 -- An access that isn't valid reads and writes nothing.
-use Rattle.std.specs.Prelude.{ℕ, ◌+◌, ◌-◌, ◌≡◌, true, List, ◌++◌, take, drop, length, Option, Some, None, nat_lt, if◌then◌else◌}
+use Rattle.std.specs.Prelude.{ℕ, ◌+◌, ◌-◌, ◌≡◌, true, List, ◌++◌, take, drop, length, Option, Some, None, nat_lt, nat_le, ◌&&◌, if◌then◌else◌}
 use Rattle.std.specs.List.{list_all}
 use Rattle.byteorder.specs.Endian.{little_number, little_bytes}
 use Rattle.ir_layout.specs.declared.spans.Span.{Span}
@@ -35,6 +35,10 @@ place_of address = address - start_of (area_of address)
 -- the area of an access and its place there, where it is valid
 abbrev pub place_of_access : List Span → ℕ → ℕ → Option (Area × ℕ)
 place_of_access places a n = if is_valid places a n then Some (area_of a, place_of a) else None
+
+-- the area of an address and its place there, if the area has it
+abbrev pub byte_place : ℕ → Option (Area × ℕ)
+byte_place a = if nat_le (start_of (area_of a)) a && nat_lt (place_of a) area_size then Some (area_of a, place_of a) else None
 
 abbrev pub bytes_in : Memory → Area → List ℕ
 bytes_in mem Globals = mem.globals
@@ -69,6 +73,10 @@ peek mem a n = word_at (bytes_in mem (area_of a)) (place_of a) n
 -- the memory once the word stands in these bytes
 abbrev pub poke : Memory → ℕ → ℕ → ℕ → Memory
 poke mem a n v = with_bytes mem (area_of a) (with_word (bytes_in mem (area_of a)) (place_of a) n v)
+
+-- the bytes of an access, where it is valid
+abbrev pub bytes_of : Memory → ℕ → ℕ → Option (List ℕ)
+bytes_of mem a n = if is_valid mem.places a n then Some (take n (drop (place_of a) (bytes_in mem (area_of a)))) else None
 
 -- what an access reads, and the memory behind one that writes, where it is valid
 abbrev pub read_of : Memory → ℕ → ℕ → Option ℕ

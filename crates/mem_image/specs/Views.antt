@@ -4,7 +4,7 @@
 --
 -- Choice: at each address one byte was written or none was, whatever was written there before; so what was written is a function of
 -- addresses.
-use Rattle.std.specs.Prelude.{ℕ, suc, ◌-◌, Bool, true, false, nat_le, List, [], ◌∷◌, Option, None, slice_get, unwrap_or}
+use Rattle.std.specs.Prelude.{ℕ, suc, ◌-◌, Bool, true, false, nat_le, nat_eq, List, [], ◌∷◌, Option, Some, None, slice_get, unwrap_or}
 use Rattle.std.specs.Option.{option_or}
 use Rattle.byteorder.specs.Endian.{little_bytes}
 use Rattle.ir_layout.specs.Memory.{globals_start, stacks_start, heap_start}
@@ -25,6 +25,10 @@ only_if false x = None
 -- the byte that stands at an address where a word stands in the n bytes from a on
 abbrev pub byte_of : ℕ → ℕ → ℕ → ℕ → Option ℕ
 byte_of a n word at = only_if (nat_le a at) (slice_get (little_bytes n word) (at - a))
+
+-- one byte is written, at an address
+abbrev pub one_byte : ℕ → ℕ → Written
+one_byte address byte at = only_if (nat_eq at address) (Some byte)
 
 -- a word is written besides
 abbrev pub stored : Written → ℕ → ℕ → ℕ → Written

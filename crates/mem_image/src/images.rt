@@ -1,11 +1,13 @@
 //! An image of memory, read and written.
 ghost use Rattle.std.specs.Prelude.{◌≡◌, ◌+◌, ◌*◌, ◌^◌, ◌<◌, ◌≤◌, None, IfOk, IfSome, length, unwrap_or};
-ghost use Rattle.std.specs.Option.{is_some};
-ghost use Rattle.ir_layout.specs.Memory.{area_size, layout_of};
+ghost use Rattle.std.specs.Option.{is_some, option_copied};
+ghost use Rattle.ir_layout.specs.Memory.{area_size, is_valid, layout_of};
 ghost use Rattle.ir_layout.specs.Limits.{first_limit};
 ghost use Rattle.mem_image.specs.Accesses.{bytes};
-ghost use Rattle.mem_image.specs.Bytes.{bytes_in, place_of_access, read_of, written};
+ghost use Rattle.mem_image.specs.Bytes.{IsWhole, byte_place, bytes_in, bytes_of, place_of_access, read_of, written};
+ghost use Rattle.mem_image.specs.Lines.{line_size};
 ghost use Rattle.mem_image.specs.Opening.{opening};
+ghost use Rattle.mem_image.specs.Views.{one_byte, view};
 
 use crate::areas::{Area, put_word, word_at};
 use crate::{Size, opening};
@@ -13,6 +15,9 @@ use ir_core::Module;
 use ir_layout::{AREA_SIZE, GlobalPlaces, Layout};
 use std::alloc::{AllocError, Global};
 use std::marker::Model;
+
+/// How many bytes a line of memory has.
+pub const LINE_SIZE: u64 = 64;
 
 /// The memory of a program. Contracts see the places of its globals and the bytes of its areas.
 #[derive(Drop)]
@@ -63,6 +68,22 @@ impl Image {
         })
     }
 
+    /// The same memory once more. It takes three areas of memory.
+    pub fn copy(&self, alloc: Global) -> Result<Image, AllocError>
+        ensures { IfOk result (λ image. image ≡ self.now) }
+    {
+        let places = self.places.copy(alloc)?;
+        let globals = Vec::from_slice(alloc, self.globals.as_slice())?;
+        let stacks = Vec::from_slice(alloc, self.stacks.as_slice())?;
+        let heap = Vec::from_slice(alloc, self.heap.as_slice())?;
+        Ok(Image {
+            places,
+            globals,
+            stacks,
+            heap,
+        })
+    }
+
     // The bytes of an area.
     fn area(&self, area: Area) -> &[u8]
         ensures bytes { result.now ≡ bytes_in self.now area }
@@ -87,6 +108,52 @@ impl Image {
         let area = Area::of(addr);
         let at = (addr - area.start()) as usize;
         Some((area, at))
+    }
+
+    /// Whether an access is valid. Memory is whole, whatever the answer.
+    pub fn valid(&self, addr: u64, size: Size) -> bool
+        ensures valid { result ≡ is_valid self.now.places addr (bytes size) }
+        ensures whole { IsWhole self.now }
+    {
+        self.places.valid(addr, size.bytes())
+    }
+
+    /// The bytes of an access, or `None` exactly where the access isn't valid.
+    pub fn bytes(&self, addr: u64, size: Size) -> Option<&[u8]>
+        ensures { option_copied result ≡ bytes_of self.now addr (bytes size) }
+    {
+        let (area, at) = self.place(addr, size)?;
+        Some(&self.area(area)[at..at + size.bytes() as usize])
+    }
+
+    // The area of a byte of a line, and how far behind the area's start it stands, if the area has it.
+    fn byte_place(&self, line: u64, offset: u64) -> Option<(Area, usize)>
+        requires { offset < line_size }
+        ensures place { result ≡ byte_place (line * line_size + offset) }
+        ensures within { IfSome result (λ place. place.1 < area_size) }
+        ensures whole { IsWhole self.now }
+    {
+        let size = self.globals.len();
+        let addr = line.checked_mul(LINE_SIZE)? + offset;
+        let area = Area::of(addr);
+        let at = addr.checked_sub(area.start())? as usize;
+        if at >= size {
+            return None;
+        }
+        Some((area, at))
+    }
+
+    /// Puts a byte where it stands in a line of 64 bytes, if an area of memory has that place.
+    pub fn put_byte(&mut self, line: u64, offset: u64, byte: u8)
+        requires { offset < line_size }
+        ensures { self.new ≡ view self.old (one_byte (line * line_size + offset) byte) }
+    {
+        match self.byte_place(line, offset) {
+            Some((Area::Globals, at)) => self.globals[at] = byte,
+            Some((Area::Stacks, at)) => self.stacks[at] = byte,
+            Some((Area::Heap, at)) => self.heap[at] = byte,
+            None => {}
+        }
     }
 
     /// The word of an access, its lowest byte first, or `None` exactly where the access isn't valid.

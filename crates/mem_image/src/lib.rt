@@ -12,7 +12,7 @@ mod memory_laws;
 mod opening;
 mod sizes;
 
-pub use images::Image;
+pub use images::{Image, LINE_SIZE};
 pub use memory_laws::writes_are_kept;
 pub use opening::{address_in, inner_address, size_in};
 pub use sizes::{Size, overlap};

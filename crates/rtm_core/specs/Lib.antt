@@ -1,2 +1,4 @@
+pub mod Calls
 pub mod Footprint
 pub mod Transactions
+pub mod code

@@ -1,0 +1,5 @@
+pub mod Fields
+pub mod LineLists
+pub mod Machines
+pub mod Others
+pub mod WrittenBytes
