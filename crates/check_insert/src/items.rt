@@ -74,8 +74,8 @@ fn add_all(args: &[(Ty, Val)], list: &mut HInsts, alloc: Global) -> Result<(), A
     Ok(())
 }
 
-// Adds the checks of an instruction's operands.
-fn add_operands(inst: &Inst, list: &mut HInsts, alloc: Global) -> Result<(), AllocError>
+/// Adds the checks of an instruction's operands. For want of memory a part of them may have been added.
+pub fn add_operands(inst: &Inst, list: &mut HInsts, alloc: Global) -> Result<(), AllocError>
     ensures { OnOk result (list.new ≡ list.old ++ flat_map check (checked inst.now)) }
 {
     match inst {

@@ -7,4 +7,5 @@ mod blocks;
 mod items;
 mod pass;
 
+pub use items::add_operands;
 pub use pass::checks;

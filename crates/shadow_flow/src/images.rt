@@ -156,8 +156,8 @@ fn is_doubled(inst: &Inst) -> bool
     )
 }
 
-// Adds what stands for an instruction.
-pub(crate) fn add_image(inst: &Inst, list: &mut HInsts, alloc: Global) -> Result<(), AllocError>
+/// Adds what stands for an instruction in the two flows. For want of memory a part of it may have been added.
+pub fn add_image(inst: &Inst, list: &mut HInsts, alloc: Global) -> Result<(), AllocError>
     ensures { OnOk result (list.new ≡ list.old ++ flow inst.now) }
 {
     if inst.is_phi() {

@@ -10,4 +10,5 @@ mod heads;
 mod images;
 mod pass;
 
+pub use images::add_image;
 pub use pass::shadow;

@@ -1,0 +1,4 @@
+pub mod LastBlock
+pub mod Made
+pub mod NextBlock
+pub mod Passing
