@@ -195,8 +195,11 @@ module _ (tx : Transaction) (c : Scene (Inside tx)) (inst : Inst) (after : List 
       → Asks (alike c.m c.h) (frames c.m) (hard_frame.frames c.h) (Now c.sides (Inside transaction_then) (seen_through transaction_then.footprint c.s.process.memory))
       (destination inst) target c.a.frame c.b.frame action
       → AfterTurn (Inside tx) c (acted c.h (now (Inside tx) c) c.t (here (Inside tx) c) c.b target true action)
-  done-inside plain asks = rw (plain, outcome-alone (hard_frame.frames c.h) (seen_by (now (Inside tx) c) (Inside tx)) c.t target c.b action by_itself,
-      same-failure (alike c.m c.h) (frames c.m) (hard_frame.frames c.h) index (destination inst) target c.a c.b c.mark c.callers c.s.process.memory.places c.t action asks ∙ can-do)
+  done-inside plain asks = rw (
+    plain,
+    outcome-alone (hard_frame.frames c.h) (seen_by (now (Inside tx) c) (Inside tx)) c.t target c.b action by_itself,
+    same-failure (alike c.m c.h) (frames c.m) (hard_frame.frames c.h) index (destination inst) target c.a c.b c.mark c.callers c.s.process.memory.places c.t action asks ∙ can-do,
+  )
       (rooms c.m c.h c.arguments c.s c.workers c.turns c.upsets c.facts c.t c.x c.at (here (Inside tx) c) c.hard_at (has_room_in (Inside tx) (touch_of action)) _
       (accesses c.m c.h c.arguments c.s c.workers c.turns c.upsets c.facts c.t c.x c.at c.v (Running c.b) tx c.hard_at c.sides c.hurt true (touch_of action) (store_of action word_found)
       (thread_after (hard_frame.frames c.h) target c.b action word_found)

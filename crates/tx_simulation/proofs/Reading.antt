@@ -77,8 +77,10 @@ module _ (l : LayoutParts) (a b : List (Option ℕ)) where
       let later = right-of (reg_in to.1) (flat_map reg_in_arg (attributes ∷ start ∷ argument ∷ [])) h in
       let last = right-of (reg_in start.1) (flat_map reg_in_arg (argument ∷ []))
       (right-of (reg_in attributes.1) (flat_map reg_in_arg (start ∷ argument ∷ [])) later) in
-      rw (word-same to.1 (left-of (reg_in to.1) (flat_map reg_in_arg (attributes ∷ start ∷ argument ∷ [])) h),
-      word-same argument.1 (left-of (reg_in argument.1) [] last)) refl
+      rw (
+        word-same to.1 (left-of (reg_in to.1) (flat_map reg_in_arg (attributes ∷ start ∷ argument ∷ [])) h),
+        word-same argument.1 (left-of (reg_in argument.1) [] last),
+      ) refl
   creating-same callees (to ∷ attributes ∷ start ∷ argument ∷ other ∷ others) h = refl
 
   asking-same : (external : External) (arguments : List (Ty × Val)) → SameOn a b (flat_map reg_in_arg arguments)
@@ -113,8 +115,11 @@ module _ (l : LayoutParts) (a b : List (Option ℕ)) where
       rw (word-same x (left-of (reg_in x) (reg_in y) h), word-same y (right-of (reg_in x) (reg_in y) h)) refl
   acts-same callees (insts.Select dst condition ty x y) h =
       let both = left-of (reg_in condition ++ reg_in x) (reg_in y) h in
-      rw (word-same condition (left-of (reg_in condition) (reg_in x) both), word-same x (right-of (reg_in condition) (reg_in x) both),
-      word-same y (right-of (reg_in condition ++ reg_in x) (reg_in y) h)) refl
+      rw (
+        word-same condition (left-of (reg_in condition) (reg_in x) both),
+        word-same x (right-of (reg_in condition) (reg_in x) both),
+        word-same y (right-of (reg_in condition ++ reg_in x) (reg_in y) h),
+      ) refl
   acts-same callees (insts.Cast dst op from x to) h = rw (word-same x h) refl
   acts-same callees (insts.Gep dst base ptr index) h =
       rw (word-same ptr (left-of (reg_in ptr) (flat_map reg_in_index index) h), indices-same index (right-of (reg_in ptr) (flat_map reg_in_index index) h)) refl
@@ -127,8 +132,11 @@ module _ (l : LayoutParts) (a b : List (Option ℕ)) where
       rw (word-same ptr (left-of (reg_in ptr) (reg_in val) h), word-same val (right-of (reg_in ptr) (reg_in val) h)) refl
   acts-same callees (insts.CmpXchg dst ptr ty old new) h =
       let both = left-of (reg_in ptr ++ reg_in old) (reg_in new) h in
-      rw (word-same ptr (left-of (reg_in ptr) (reg_in old) both), word-same old (right-of (reg_in ptr) (reg_in old) both),
-      word-same new (right-of (reg_in ptr ++ reg_in old) (reg_in new) h)) refl
+      rw (
+        word-same ptr (left-of (reg_in ptr) (reg_in old) both),
+        word-same old (right-of (reg_in ptr) (reg_in old) both),
+        word-same new (right-of (reg_in ptr ++ reg_in old) (reg_in new) h),
+      ) refl
   acts-same callees insts.Fence h = refl
   acts-same callees (insts.Call dst ret callee args) h = calling-same callees (slice_index_or callees callee.0 Unknown) args h
   acts-same callees (insts.Phi dst ty arms) h = refl
