@@ -43,3 +43,11 @@ fn entries_are_those_of_the_lines(rt: HostRuntime) {
     };
     assert!(rt; is_the_upset(upset));
 }
+
+#[test]
+fn a_long_mix_is_one_entry(rt: HostRuntime) {
+    let schedule = schedule_of(&rt, rt.alloc(), "mix 64 1 4194304");
+    let lines = schedule.lines();
+    assert!(rt; lines.len() == 1);
+    assert!(rt; matches!(&lines[0], Line::Mix(64, 1, 4_194_304)));
+}

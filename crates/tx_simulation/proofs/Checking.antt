@@ -117,9 +117,9 @@ module _ (mode : Mode) (c : Scene mode) where
       check-at done operands ty reg code past all same = record {
         off = λ off. point (λ effect. absurd (never-both _ (inactive-effect inst (is_inside mode) (is_edged c.h c.b.frame) off) effect));
         same = λ p q on e f k. point (λ effect. master-same c.sides names _ _ _ reg named masters shadows ty p q e f k);
-        differ = λ p q e f k free. differ-hurt c.sides names _ _ _ reg named masters shadows ty p q e f k;
-        no_master = λ e free. missing-master c.sides names _ _ _ reg named masters shadows has e;
-        no_shadow = λ e free. missing-shadow c.sides names _ _ _ reg named masters shadows has e;
+        differ = λ p q on e f k free. differ-hurt c.sides names _ _ _ reg named masters shadows ty p q e f k;
+        no_master = λ on e free. missing-master c.sides names _ _ _ reg named masters shadows has e;
+        no_shadow = λ on e free. missing-shadow c.sides names _ _ _ reg named masters shadows has e;
       }
         where
           names : ℕ → Bool

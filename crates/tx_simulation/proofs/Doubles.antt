@@ -58,7 +58,7 @@ use Rattle.tx_simulation.proofs.Points.{touched, IfInside, IsFree, names_at, pas
 use Rattle.tx_simulation.proofs.Lines.{never-both, touched-own, touched-keeps}
 use Rattle.tx_simulation.proofs.Inner.{Covers}
 use Rattle.tx_simulation.proofs.Named.{put-agrees}
-use Rattle.tx_simulation.proofs.Scene.{Scene, here, now, seen, AfterTurn, not-faulty, can, by-head, code-after, trapping, same-layout, same-callees}
+use Rattle.tx_simulation.proofs.Scene.{Scene, here, now, seen, AfterTurn, not-faulty, can, by-head, code-after, trapping, own-action}
 use Rattle.tx_simulation.proofs.Quiet.{quiet_effect, StillOn, tries-looking, IsQuiet, tries-quietly}
 use Rattle.tx_simulation.proofs.Checking.{named-read, IsChecked, Turns}
 
@@ -243,9 +243,6 @@ module _ (mode : Mode) (c : Scene mode) (inst : Inst) (after : List Inst) (left 
       (λ reg is. agree.same reg.0 (named-read mode c inst after left reg (subst (λ (regs : List Loc). IsIn reg regs) (unflagged-reads inst) is)))
       ∙ unflagged-action (layout_of c.m) (callees_of c.m) c.a.frame.registers inst defined
 
-  action-is : (side : Side) → action_on c.h side c.b.frame (unflagged inst) ≡ own_act side
-  action-is side = rw (same-layout mode c, same-callees mode c) refl
-
   -- what a known side has come to
   record Own (side : Side) (retires : Bool) (touch : Option Touch) (n : ℕ) : Type 0 where
     agree : Agrees (file side c.b.frame)
@@ -307,7 +304,7 @@ module _ (mode : Mode) (c : Scene mode) (inst : Inst) (after : List Inst) (left 
         (misses cause (λ agree. ap (failure (frames c.m) c.s.process.memory.places c.t c.a) (sym (known (file side c.b.frame) agree) ∙ e))))
 
     side-turn : AfterTurn mode c (acted c.h (now mode c) c.t (here mode c) c.b target retires (action_on c.h side c.b.frame (unflagged inst)))
-    side-turn = subst (λ (k : Action). AfterTurn mode c (acted c.h (now mode c) c.t (here mode c) c.b target retires k)) (sym (action-is side))
+    side-turn = subst (λ (k : Action). AfterTurn mode c (acted c.h (now mode c) c.t (here mode c) c.b target retires k)) (sym (own-action mode c side (unflagged inst)))
         (by-word (word-of (layout_of c.m) (callees_of c.m) (file side c.b.frame) (unflagged inst) (unflagged-twice inst twice)))
 
   -- ---- where the word goes
@@ -357,13 +354,15 @@ module _ (mode : Mode) (c : Scene mode) (inst : Inst) (after : List Inst) (left 
         goes : (touch : Option Touch) (n : ℕ) → On c.sides S (Own S true touch n)
             → AfterTurn mode c (tried (now mode c) c.t (here mode c) true None (quiet_effect mode c (word_put mode c true (Some (S, at)) n) touch))
         goes touch n own = tries-quietly mode c touch (word_put mode c true (Some (S, at)) n) (record {
-          inst = inst;
-          after = after;
-          left = left;
-          action = source_act;
-          acts = refl;
-          by_itself = word-alone source_act source-word;
-          none = word-stores source_act source-word;
+          next = record {
+            inst = inst;
+            after = after;
+            left = left;
+            action = source_act;
+            acts = refl;
+            by_itself = word-alone source_act source-word;
+            none = word-stores source_act source-word;
+          };
           covers = covers-either mode c.sides touch (seen mode c) source_act source-word on_read (on-map c.sides S (Own S true touch n) _ (λ o. o.covers) own);
           stands = subst (λ (x : Thread SourceFrame). IsThreadOn c.m c.h c.sides (mode_after true touch None mode) (seen mode c) x (word_put mode c true (Some (S, at)) n))
               (sym (gives-thread c.m (destination inst) c.a (seen mode c) source_act word source-word given))

@@ -48,3 +48,7 @@ pub mod Doubles
 pub mod Once
 pub mod InsideActions
 pub mod Singles
+pub mod Stores
+pub mod Dooms
+pub mod Windowed
+pub mod StrikeFrames

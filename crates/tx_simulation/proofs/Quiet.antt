@@ -59,7 +59,7 @@ quiet_effect mode c y touch = record { thread = y; world = c.s.process.world; bo
 abbrev pub StillOn : (mode : Mode) → Scene mode → Option Touch → Thread Frame → Type 0
 StillOn mode c touch y = IsThreadOn c.m c.h c.sides (mode_after false touch None mode) (seen_in mode c.s.process.memory) (Running c.a) y
 
-looks : (mode : Mode) (c : Scene mode) (touch : Option Touch) (y : Thread Frame) → StillOn mode c touch y
+pub looks : (mode : Mode) (c : Scene mode) (touch : Option Touch) (y : Thread Frame) → StillOn mode c touch y
     → AfterTurn mode c (did (now mode c) c.t (here mode c) false None (quiet_effect mode c y touch))
 looks (Free plain) c touch y is =
     Runs c.s _ c.turns c.upsets refl (stays-kept c.m c.h c.arguments c.s c.workers c.turns c.upsets c.facts c.t c.x (here (Free plain) c) c.at c.hard_at
@@ -86,8 +86,8 @@ tries-looking mode c touch y is =
 
 -- ---- turns that retire an instruction
 
--- the source has done its next action, which stores nothing, with the word that it found
-pub record IsQuiet (mode : Mode) (c : Scene mode) (touch : Option Touch) (y : Thread Frame) : Type 0 where
+-- the source has an action next that stores nothing
+pub record HasQuiet (mode : Mode) (c : Scene mode) : Type 0 where
   pub inst : Inst
   pub after : List Inst
   pub left : source_code c.m c.a.frame ≡ inst ∷ after
@@ -95,11 +95,18 @@ pub record IsQuiet (mode : Mode) (c : Scene mode) (touch : Option Touch) (y : Th
   pub acts : action_in c.m c.a.frame inst ≡ action
   pub by_itself : IsAlone action
   pub none : (old : ℕ) → store_of action old ≡ None
-  pub covers : IfInside (mode_after true touch None mode) (Covers (mode_after true touch None mode) (place_of action))
-  pub stands : IsThreadOn c.m c.h c.sides (mode_after true touch None mode) (seen_in mode c.s.process.memory)
-      (thread_after (frames c.m) (destination inst) c.a action (word_read (seen mode c) action)) y
 
-module _ (mode : Mode) (c : Scene mode) (touch : Option Touch) (y : Thread Frame) (is : IsQuiet mode c touch y) where
+-- the source's thread once it has done it, with the word that it found
+abbrev pub source_then : (mode : Mode) (c : Scene mode) → HasQuiet mode c → Thread SourceFrame
+source_then mode c next = thread_after (frames c.m) (destination next.inst) c.a next.action (word_read (seen mode c) next.action)
+
+-- and the hardened thread stands for it
+pub record IsQuiet (mode : Mode) (c : Scene mode) (touch : Option Touch) (y : Thread Frame) : Type 0 where
+  pub next : HasQuiet mode c
+  pub covers : IfInside (mode_after true touch None mode) (Covers (mode_after true touch None mode) (place_of next.action))
+  pub stands : IsThreadOn c.m c.h c.sides (mode_after true touch None mode) (seen_in mode c.s.process.memory) (source_then mode c next) y
+
+module _ (mode : Mode) (c : Scene mode) (is : HasQuiet mode c) where
   -- what the source's step comes to
   abbrev quiet_step : Effect SourceFrame
   quiet_step = record {
@@ -119,9 +126,11 @@ module _ (mode : Mode) (c : Scene mode) (touch : Option Touch) (y : Thread Frame
       ∙ ap (λ (o : Option Cause). goes_unless o (effect_alone (frames c.m) c.s.process (destination is.inst) c.a is.action)) can-do
       ∙ ap (λ (o : Option Store). Goes (record quiet_step { store = o })) (is.none (word_read c.s.process.memory is.action))
 
-retires-outside : (plain : Bool) (c : Scene (Free plain)) (touch : Option Touch) (y : Thread Frame) → IsQuiet (Free plain) c touch y
+-- outside, whatever stands for the source's thread then
+pub retires-outside : (plain : Bool) (c : Scene (Free plain)) (touch : Option Touch) (y : Thread Frame) (is : HasQuiet (Free plain) c)
+    → OkIn c.m c.h c.sides c.s.process.memory c.t (source_then (Free plain) c is) y (Free plain)
     → AfterTurn (Free plain) c (did (now (Free plain) c) c.t (here (Free plain) c) true None (quiet_effect (Free plain) c y touch))
-retires-outside plain c touch y is =
+retires-outside plain c touch y is ok =
     Runs next _ (c.turns ++ c.t ∷ []) c.upsets refl
     (goes-kept c.m c.h c.arguments c.s c.workers c.turns c.upsets c.facts c.t c.x (here (Free plain) c) c.at c.hard_at
     (record { touch = touch; mutex = None }) (record c.v { thread = y; mode = Free plain }) (λ line. ⊥) next ex.thread 1 None None
@@ -132,20 +141,20 @@ retires-outside plain c touch y is =
     (record {
       sides = c.sides;
       hurt = λ z. let k = c.hurt z in record { number = k.number; carried = k.carried };
-      ok = inl is.stands;
+      ok = ok;
     })
     (λ mode clear apart. apart) (λ mode clear apart. apart) (λ b e. cc) (λ mode clear free. free)
     (c.facts.all.named c.t (here (Free plain) c) c.hard_at))
   where
     ex : Effect SourceFrame
-    ex = quiet_step (Free plain) c touch y is
+    ex = quiet_step (Free plain) c is
 
     next : SourceState
     next = record c.s { process = applied c.s.process c.t (Goes ex) }
 
     goes : step c.m c.s c.t ≡ (next, Went)
     goes = steps-as c.m c.h c.arguments c.good c.s c.workers c.turns c.upsets c.facts c.t c.a (c.at ∙ ap Some c.link) is.inst is.action ex
-        (found (Free plain) c is.inst is.after is.left) is.acts (comes-to (Free plain) c touch y is)
+        (found (Free plain) c is.inst is.after is.left) is.acts (comes-to (Free plain) c is)
 
 retires-inside : (tx : Transaction) (c : Scene (Inside tx)) (touch : Option Touch) (y : Thread Frame) → IsQuiet (Inside tx) c touch y
     → AfterTurn (Inside tx) c (did (now (Inside tx) c) c.t (here (Inside tx) c) true None (quiet_effect (Inside tx) c y touch))
@@ -153,24 +162,24 @@ retires-inside tx c touch y is =
     accesses c.m c.h c.arguments c.s c.workers c.turns c.upsets c.facts c.t c.x c.at c.v (Running c.b) tx c.hard_at c.sides c.hurt true touch None y
     (in-tx c.m c.h c.sides c.s.process.memory c.t c.x _ y (transaction_after true touch None tx)
     (subst (λ (o : Option Store). stored_with stored o (written_by tx.footprint) ≡ written_by (transaction_after true touch None tx).footprint → Linked)
-    (is.none old) link-with (sym (written-quiet true touch tx)))
-    (subst (λ (mem : Memory). IsThreadOn c.m c.h c.sides (Inside (transaction_after true touch None tx)) mem (thread_after (frames c.m) (destination is.inst) c.a is.action old) y)
+    (is.next.none old) link-with (sym (written-quiet true touch tx)))
+    (subst (λ (mem : Memory). IsThreadOn c.m c.h c.sides (Inside (transaction_after true touch None tx)) mem (thread_after (frames c.m) (destination is.next.inst) c.a is.next.action old) y)
     (sym (seen-quiet true touch tx c.s.process.memory)) is.stands))
   where
     old : ℕ
-    old = word_read (seen (Inside tx) c) is.action
+    old = word_read (seen (Inside tx) c) is.next.action
 
     Linked : Type 0
-    Linked = Link c.m c.h c.sides c.s.process.memory c.t c.x (transaction_after true touch None tx) (thread_after (frames c.m) (destination is.inst) c.a is.action old)
+    Linked = Link c.m c.h c.sides c.s.process.memory c.t c.x (transaction_after true touch None tx) (thread_after (frames c.m) (destination is.next.inst) c.a is.next.action old)
 
-    link-with : stored_with stored (store_of is.action old) (written_by tx.footprint) ≡ written_by (transaction_after true touch None tx).footprint → Linked
-    link-with same = link-more c.m c.h c.sides c.s.process.memory c.t c.x tx touch None c.a is.inst is.action old c.link
-        (found (Inside tx) c is.inst is.after is.left) is.acts is.by_itself (can-do (Inside tx) c touch y is) refl same is.covers
+    link-with : stored_with stored (store_of is.next.action old) (written_by tx.footprint) ≡ written_by (transaction_after true touch None tx).footprint → Linked
+    link-with same = link-more c.m c.h c.sides c.s.process.memory c.t c.x tx touch None c.a is.next.inst is.next.action old c.link
+        (found (Inside tx) c is.next.inst is.next.after is.next.left) is.next.acts is.next.by_itself (can-do (Inside tx) c is.next) refl same is.covers
         (buffers-quiet c.s.process.memory.places true touch tx c.link.buffers) (writes-quiet true touch tx c.link.writes)
 
 retires-quietly : (mode : Mode) (c : Scene mode) (touch : Option Touch) (y : Thread Frame) → IsQuiet mode c touch y
     → AfterTurn mode c (did (now mode c) c.t (here mode c) true None (quiet_effect mode c y touch))
-retires-quietly (Free plain) c touch y is = retires-outside plain c touch y is
+retires-quietly (Free plain) c touch y is = retires-outside plain c touch y is.next (inl is.stands)
 retires-quietly (Inside tx) c touch y is = retires-inside tx c touch y is
 
 -- where its lists have room

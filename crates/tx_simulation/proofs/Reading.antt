@@ -46,7 +46,7 @@ module _ (l : LayoutParts) (a b : List (Option ℕ)) where
   right-of : (xs ys : List Loc) → SameOn a b (xs ++ ys) → SameOn a b ys
   right-of xs ys h reg is = h reg (in-back reg xs ys is)
 
-  word-same : (value : Val) → SameOn a b (reg_in value) → word_of l a value ≡ word_of l b value
+  pub word-same : (value : Val) → SameOn a b (reg_in value) → word_of l a value ≡ word_of l b value
   word-same (values.Reg reg) h = h reg (0, refl)
   word-same (values.Int n) h = refl
   word-same values.Null h = refl
@@ -149,7 +149,7 @@ module _ (l : LayoutParts) (a b : List (Option ℕ)) where
 
 -- ---- the same words of types
 
-pointer-width : width_of types.Ptr ≡ Some W64
+pub pointer-width : width_of types.Ptr ≡ Some W64
 unfolding opened.roll-Ty denote.Hole.Carrier.roll
 pointer-width = ap width_step (out-roll-Ty Ty-F.Ptr)
 

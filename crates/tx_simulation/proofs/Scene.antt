@@ -4,6 +4,7 @@ use Rattle.std.specs.Option.{option_map_or, is_some}
 use Rattle.ir_core.specs.declared.types.Ty.{Ty}
 use Rattle.ir_core.specs.declared.types.Loc.{Loc}
 use Rattle.ir_core.specs.declared.values.Val.TheVariants as values
+use Rattle.ir_core.specs.declared.values.Side.{Side}
 use Rattle.ir_core.specs.declared.instruction.Inst.{Inst}
 use Rattle.ir_core.specs.declared.instruction.Block.{Block}
 use Rattle.ir_core.specs.Module.{ModuleParts, FuncParts}
@@ -14,7 +15,7 @@ use Rattle.inst_meaning.specs.declared.actions.Cause.{Cause}
 use Rattle.inst_meaning.specs.declared.actions.Cause.TheVariants.{Unreachable}
 use Rattle.inst_meaning.specs.declared.actions.Action.{Action}
 use Rattle.inst_meaning.specs.declared.actions.Action.TheVariants.{Fault}
-use Rattle.inst_meaning.specs.Action.{callees_of}
+use Rattle.inst_meaning.specs.Action.{action_of, callees_of}
 use Rattle.inst_meaning.specs.Registers.{get}
 use Rattle.process.specs.declared.state.CallStack.{CallStack}
 use Rattle.process.specs.declared.state.Thread.{Thread}
@@ -238,3 +239,8 @@ module _ (mode : Mode) (c : Scene mode) where
 
   pub same-callees : callees_of c.h.heads ≡ callees_of c.m
   same-callees = ap callees_of c.image.heads ∙ heads.callees-heads c.m
+
+  -- what an instruction asks for on a side of the frame
+  pub own-action : (side : Side) (inst : Inst) → hard_frame.action_on c.h side c.b.frame inst
+      ≡ action_of (layout_of c.m) (callees_of c.m) (hard_frame.file side c.b.frame) inst
+  own-action side inst = rw (same-layout, same-callees) refl

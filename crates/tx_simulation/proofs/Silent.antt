@@ -195,9 +195,9 @@ module _ (mode : Mode) (c : Scene mode) where
     pub off : is_active when (is_inside mode) ≡ false → PointAt mode c (hard_frame.passed c.b.frame)
     pub same : (p q : ℕ) → is_active when (is_inside mode) ≡ true → get c.b.frame.masters reg.0 ≡ Some p → get c.b.frame.shadows reg.0 ≡ Some q
         → same_word ty p q ≡ true → PointAt mode c (hard_frame.passed c.b.frame)
-    pub differ : (p q : ℕ) → get c.b.frame.masters reg.0 ≡ Some p → get c.b.frame.shadows reg.0 ≡ Some q → same_word ty p q ≡ false → IsFree mode → IsHurt c.sides
-    pub no_master : get c.b.frame.masters reg.0 ≡ None → IsFree mode → IsHurt c.sides
-    pub no_shadow : get c.b.frame.shadows reg.0 ≡ None → IsFree mode → IsHurt c.sides
+    pub differ : (p q : ℕ) → is_active when (is_inside mode) ≡ true → get c.b.frame.masters reg.0 ≡ Some p → get c.b.frame.shadows reg.0 ≡ Some q → same_word ty p q ≡ false → IsFree mode → IsHurt c.sides
+    pub no_master : is_active when (is_inside mode) ≡ true → get c.b.frame.masters reg.0 ≡ None → IsFree mode → IsHurt c.sides
+    pub no_shadow : is_active when (is_inside mode) ≡ true → get c.b.frame.shadows reg.0 ≡ None → IsFree mode → IsHurt c.sides
 
   pub compares : (when : When) (ty : Ty) (reg : Loc) → AsksOf when ty reg
       → AfterTurn mode c (stepped c.h (now mode c) c.t (here mode c) c.b (Chk when ty reg))
@@ -206,13 +206,13 @@ module _ (mode : Mode) (c : Scene mode) where
       by_test : (p q : ℕ) → is_active when (is_inside mode) ≡ true → get c.b.frame.masters reg.0 ≡ Some p → get c.b.frame.shadows reg.0 ≡ Some q
           → (b : Bool) → same_word ty p q ≡ b → AfterTurn mode c (agreed c.h (now mode c) c.t (here mode c) c.b b)
       by_test p q on e f true k = passes mode c (asks.same p q on e f k)
-      by_test p q on e f false k = failing mode c (asks.differ p q e f k)
+      by_test p q on e f false k = failing mode c (asks.differ p q on e f k)
 
       by_words : is_active when (is_inside mode) ≡ true → (o u : Option ℕ) → get c.b.frame.masters reg.0 ≡ o → get c.b.frame.shadows reg.0 ≡ u
           → AfterTurn mode c (compared c.h (now mode c) c.t (here mode c) c.b ty o u)
       by_words on (Some p) (Some q) e f = by_test p q on e f (same_word ty p q) refl
-      by_words on (Some p) None e f = trapping mode c (asks.no_shadow f)
-      by_words on None u e f = trapping mode c (asks.no_master e)
+      by_words on (Some p) None e f = trapping mode c (asks.no_shadow on f)
+      by_words on None u e f = trapping mode c (asks.no_master on e)
 
       by_active : (b : Bool) → is_active when (is_inside mode) ≡ b → AfterTurn mode c (checked c.h (now mode c) c.t (here mode c) c.b ty reg b)
       by_active true on = by_words on (get c.b.frame.masters reg.0) (get c.b.frame.shadows reg.0) refl refl

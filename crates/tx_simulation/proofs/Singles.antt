@@ -53,7 +53,7 @@ use Rattle.tx_simulation.proofs.Landing.{IsLanding, Lost, Landed, lands}
 use Rattle.tx_simulation.proofs.Entries.{one-but, enters, enters-fresh, resumes}
 use Rattle.tx_simulation.proofs.Inner.{in-tx, link-called}
 use Rattle.tx_simulation.proofs.Acts.{can-call, watches}
-use Rattle.tx_simulation.proofs.Scene.{Scene, here, now, seen, AfterTurn, placed, found, not-faulty, can, suited, trapping, same-layout, same-callees}
+use Rattle.tx_simulation.proofs.Scene.{Scene, here, now, seen, AfterTurn, placed, found, not-faulty, can, suited, trapping, own-action}
 use Rattle.tx_simulation.proofs.Silent.{PointIn, ends-at}
 use Rattle.tx_simulation.proofs.Once.{done-outside, transaction_then, done-inside}
 use Rattle.tx_simulation.proofs.InsideActions.{Inner, ByItself, OfMutex, inner-kind}
@@ -280,11 +280,12 @@ suits-as : (mode : Mode) (c : Scene mode) (inst : Inst) (r : IsReady mode c inst
 suits-as mode c inst r action acts = subst (IsSuited c.m inst) acts (suited mode c inst r.after r.left)
 
 does-as : (mode : Mode) (c : Scene mode) (inst : Inst) (r : IsReady mode c inst) → checks_after inst ≡ []
-    → AreSameIn c.b.frame.masters c.a.frame.registers (checked_before inst) → (action : Action) → source_action c.m c.a.frame.registers inst ≡ action
+    → (action : Action) → source_action c.m c.a.frame.registers inst ≡ action
+    → ((call : MutexCall) → mutex_call action ≡ Some call → AreSameIn c.b.frame.masters c.a.frame.registers (checked_before inst))
     → JumpsAlike mode c action → Does mode c inst action
-does-as (Free plain) c inst r none same action acts jumps = done-outside plain c inst r.after r.left action acts (destination_on M inst)
+does-as (Free plain) c inst r none action acts same jumps = done-outside plain c inst r.after r.left action acts (destination_on M inst)
     (λ mem. asks-of (Free plain) c inst r none (Free plain) mem action (suits-as (Free plain) c inst r action acts) (jumps (Free plain) mem))
-does-as (Inside tx) c inst r none same action acts jumps = by_kind r.kind
+does-as (Inside tx) c inst r none action acts same jumps = by_kind r.kind
   where
     by_inner : Inner action → Does (Inside tx) c inst action
     by_inner (ByItself by_itself plain) = done-inside tx c inst r.after r.left action acts by_itself (destination_on M inst) plain
@@ -293,42 +294,40 @@ does-as (Inside tx) c inst r none same action acts jumps = by_kind r.kind
         (suits-as (Inside tx) c inst r action acts)
         (jumps (Inside (transaction_then tx c inst r.after r.left action acts by_itself (destination_on M inst)))
         (seen_through (transaction_then tx c inst r.after r.left action acts by_itself (destination_on M inst)).footprint c.s.process.memory)))
-    by_inner (OfMutex call is) = mutex-inside tx c inst r none same action acts call is
+    by_inner (OfMutex call is) = mutex-inside tx c inst r none (same call is) action acts call is
 
     by_kind : IsFree (Inside tx) ⊎ (ends_before c.m inst ≡ []) → Does (Inside tx) c inst action
     by_kind (inl free) = absurd free
     by_kind (inr ends) = by_inner (subst Inner acts (inner-kind c.m (layout_of c.m) c.a.frame.registers inst ends))
 
-module _ (mode : Mode) (c : Scene mode) (inst : Inst) (r : IsReady mode c inst) (none : checks_after inst ≡ [])
-    (same : AreSameIn c.b.frame.masters c.a.frame.registers (checked_before inst)) where
-  branches-to : (label : Loc) → source_action c.m c.a.frame.registers inst ≡ Jump label → (o : Option Frame) → hard_frame.jumped c.h c.b.frame label ≡ o → Does mode c inst (Jump label)
+module _ (mode : Mode) (c : Scene mode) (inst : Inst) (r : IsReady mode c inst) (none : checks_after inst ≡ []) where
+  pub branches-to : (label : Loc) → source_action c.m c.a.frame.registers inst ≡ Jump label → (o : Option Frame) → hard_frame.jumped c.h c.b.frame label ≡ o → Does mode c inst (Jump label)
   branches-to label acts None e = subst (AfterTurn mode c) (sym (jump-none mode c (destination_on M inst) label e))
       (trapping mode c (λ free. (lost-or-lands mode c inst r label acts (suits-as mode c inst r (Jump label) acts).suits).0 e))
-  branches-to label acts (Some other) e = does-as mode c inst r none same (Jump label) acts (λ k mem to f.
+  branches-to label acts (Some other) e = does-as mode c inst r none (Jump label) acts (λ call e. cc) (λ k mem to f.
       let is : label ≡ to = cc in
       subst (λ (at : Loc). AreJumps (alike c.m c.h) (Now c.sides k mem) (source.jumped c.m c.a.frame at) (hard_frame.jumped c.h c.b.frame at)) is
       ((lost-or-lands mode c inst r label acts (suits-as mode c inst r (Jump label) acts).suits).1 other e k mem))
 
+module _ (mode : Mode) (c : Scene mode) (inst : Inst) (r : IsReady mode c inst) (none : checks_after inst ≡ [])
+    (same : AreSameIn c.b.frame.masters c.a.frame.registers (checked_before inst)) where
   does : (action : Action) → source_action c.m c.a.frame.registers inst ≡ action → Does mode c inst action
-  does (Jump label) acts = branches-to label acts (hard_frame.jumped c.h c.b.frame label) refl
-  does (Assign n) acts = does-as mode c inst r none same (Assign n) acts (λ k mem label e. cc)
-  does (Reserve size) acts = does-as mode c inst r none same (Reserve size) acts (λ k mem label e. cc)
-  does (Read place atomic) acts = does-as mode c inst r none same (Read place atomic) acts (λ k mem label e. cc)
-  does (Write place n atomic) acts = does-as mode c inst r none same (Write place n atomic) acts (λ k mem label e. cc)
-  does (Update place update) acts = does-as mode c inst r none same (Update place update) acts (λ k mem label e. cc)
-  does Pass acts = does-as mode c inst r none same Pass acts (λ k mem label e. cc)
-  does (Call n words) acts = does-as mode c inst r none same (Call n words) acts (λ k mem label e. cc)
-  does (Ask request) acts = does-as mode c inst r none same (Ask request) acts (λ k mem label e. cc)
-  does (Create address n argument) acts = does-as mode c inst r none same (Create address n argument) acts (λ k mem label e. cc)
-  does (Join other) acts = does-as mode c inst r none same (Join other) acts (λ k mem label e. cc)
-  does (Exit code) acts = does-as mode c inst r none same (Exit code) acts (λ k mem label e. cc)
-  does (Return n) acts = does-as mode c inst r none same (Return n) acts (λ k mem label e. cc)
+  does (Jump label) acts = branches-to mode c inst r none label acts (hard_frame.jumped c.h c.b.frame label) refl
+  does (Assign n) acts = does-as mode c inst r none (Assign n) acts (λ call e. same) (λ k mem label e. cc)
+  does (Reserve size) acts = does-as mode c inst r none (Reserve size) acts (λ call e. same) (λ k mem label e. cc)
+  does (Read place atomic) acts = does-as mode c inst r none (Read place atomic) acts (λ call e. same) (λ k mem label e. cc)
+  does (Write place n atomic) acts = does-as mode c inst r none (Write place n atomic) acts (λ call e. same) (λ k mem label e. cc)
+  does (Update place update) acts = does-as mode c inst r none (Update place update) acts (λ call e. same) (λ k mem label e. cc)
+  does Pass acts = does-as mode c inst r none Pass acts (λ call e. same) (λ k mem label e. cc)
+  does (Call n words) acts = does-as mode c inst r none (Call n words) acts (λ call e. same) (λ k mem label e. cc)
+  does (Ask request) acts = does-as mode c inst r none (Ask request) acts (λ call e. same) (λ k mem label e. cc)
+  does (Create address n argument) acts = does-as mode c inst r none (Create address n argument) acts (λ call e. same) (λ k mem label e. cc)
+  does (Join other) acts = does-as mode c inst r none (Join other) acts (λ call e. same) (λ k mem label e. cc)
+  does (Exit code) acts = does-as mode c inst r none (Exit code) acts (λ call e. same) (λ k mem label e. cc)
+  does (Return n) acts = does-as mode c inst r none (Return n) acts (λ call e. same) (λ k mem label e. cc)
   does (Fault cause) acts = absurd (not-faulty mode c inst r.after r.left cause acts)
 
   -- its turn, where no late checks follow
   pub once-turn : AfterTurn mode c (stepped c.h (now mode c) c.t (here mode c) c.b (Do M inst true))
-  once-turn = subst (λ (k : Action). Does mode c inst k) (sym (action-is ∙ acts-alike (layout_of c.m) c.b.frame.masters c.a.frame.registers (callees_of c.m) inst r.once same))
+  once-turn = subst (λ (k : Action). Does mode c inst k) (sym (own-action mode c M inst ∙ acts-alike (layout_of c.m) c.b.frame.masters c.a.frame.registers (callees_of c.m) inst r.once same))
       (does (source_action c.m c.a.frame.registers inst) refl)
-    where
-      action-is : action_on c.h M c.b.frame inst ≡ action_of (layout_of c.m) (callees_of c.m) c.b.frame.masters inst
-      action-is = rw (same-layout mode c, same-callees mode c) refl
