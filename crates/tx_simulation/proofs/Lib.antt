@@ -50,5 +50,4 @@ pub mod InsideActions
 pub mod Singles
 pub mod Stores
 pub mod Dooms
-pub mod Windowed
-pub mod StrikeFrames
+pub mod LateChecks
