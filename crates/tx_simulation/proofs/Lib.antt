@@ -51,3 +51,5 @@ pub mod Singles
 pub mod Stores
 pub mod Dooms
 pub mod LateChecks
+pub mod Copies
+pub mod Guarded
