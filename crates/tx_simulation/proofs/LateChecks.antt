@@ -1,14 +1,14 @@
 -- The late checks of a plain store: outside they do nothing; inside they compare, and where they fail the thread is aborted.
-use Rattle.std.proofs.Common.{ℕ, ◌≡◌, ◌⊎◌, ◌∙◌, Bool, true, false, List, [], ◌∷◌, ◌++◌, Option, Some, None, nat_eq, refl, ap, sym, subst, inl, inr}
-use Rattle.ir_core.specs.declared.types.Ty.{Ty}
+-- a store whose checks are left, and what is known there
+use Rattle.std.proofs.Common.{Bool, List, None, Option, Some, false, inl, inr, nat_eq, refl, subst, sym, true, ℕ, ◌∷◌, ◌≡◌, ◌⊎◌, []}
 use Rattle.ir_core.specs.declared.types.Ty.TheVariants as types
-use Rattle.ir_core.specs.declared.types.Loc.{Loc}
-use Rattle.ir_core.specs.declared.types.Width.{Width}
+use Rattle.ir_core.specs.declared.types.Ty.{Ty}
 use Rattle.ir_core.specs.declared.types.Width.TheVariants.{W64}
-use Rattle.ir_core.specs.declared.values.Val.{Val}
-use Rattle.ir_core.specs.declared.values.Val.TheVariants as values
+use Rattle.ir_core.specs.declared.types.Width.{Width}
 use Rattle.ir_core.specs.declared.values.Side.TheVariants.{M, S}
-use Rattle.ir_layout.specs.Memory.{layout_of, is_valid}
+use Rattle.ir_core.specs.declared.values.Val.TheVariants as values
+use Rattle.ir_core.specs.declared.values.Val.{Val}
+use Rattle.ir_layout.specs.Memory.{layout_of}
 use Rattle.mem_image.specs.Bytes.{peek}
 use Rattle.mem_image.specs.Touches.{Touch}
 use Rattle.rtm_core.specs.Footprint.{has_room, seen_through}
@@ -16,31 +16,26 @@ use Rattle.inst_meaning.specs.Action.{place_at}
 use Rattle.inst_meaning.specs.Operands.{memory_width, word_at}
 use Rattle.process.specs.Outcome.{touch_at}
 use Rattle.process.specs.State.{in_frame}
-use Rattle.hard_ir.specs.declared.instruction.HVal.{HVal}
-use Rattle.hard_ir.specs.declared.instruction.When.TheVariants.{Tx}
-use Rattle.hard_ir.specs.declared.instruction.HInst.{HInst}
-use Rattle.hard_ir.specs.declared.instruction.HInst.TheVariants.{Chk, ChkMem}
 use Rattle.hard_ir.specs.Image.{on_shadow}
 use Rattle.hard_ir.specs.Images.{LooseRows}
-use Rattle.hard_frames.specs.declared.state.Frame.{Frame}
+use Rattle.hard_ir.specs.declared.instruction.HInst.TheVariants.{Chk, ChkMem}
+use Rattle.hard_ir.specs.declared.instruction.HInst.{HInst}
+use Rattle.hard_ir.specs.declared.instruction.When.TheVariants.{Tx}
 use Rattle.hard_frames.specs.Frames as hard_frame
-use Rattle.hard_simulation.proofs.Sides.{On, IsHurt}
-use Rattle.hard_simulation.proofs.Points.{source_code, hard_code}
-use Rattle.hard_meaning.specs.State.{Transaction, Mode, Free, Inside, Worker, is_inside}
-use Rattle.hard_meaning.specs.Aborts.{Mismatch, Claim, aborted}
+use Rattle.hard_simulation.proofs.Points.{hard_code, source_code}
+use Rattle.hard_simulation.proofs.Sides.{On}
+use Rattle.hard_meaning.specs.Aborts.{Mismatch}
 use Rattle.hard_meaning.specs.Checks.{is_active, operand_word}
-use Rattle.hard_meaning.specs.Turns.{stepped, matched, read_back, read_at, read_as, memory_checked}
-use Rattle.tx_simulation.proofs.Lines.{never-both}
-use Rattle.tx_simulation.proofs.Points.{IfInside, IsFree, IsStored, AgreeIn, At, Late, names_at, checks_onto}
-use Rattle.tx_simulation.proofs.Facts.{worker-aborted}
-use Rattle.tx_simulation.proofs.Kept.{within-aborted, named-aborted, stays-kept}
-use Rattle.tx_simulation.proofs.Holds.{Runs, rooms}
-use Rattle.tx_simulation.proofs.Scene.{Scene, here, now, seen, AfterTurn, PointAt, by-head, code-after, trapping}
-use Rattle.tx_simulation.proofs.Silent.{AsksOf, compares, passes}
+use Rattle.hard_meaning.specs.State.{Free, Inside, Mode, Transaction, is_inside}
+use Rattle.hard_meaning.specs.Turns.{matched, read_as, read_at, read_back}
 use Rattle.tx_simulation.proofs.Checking.{Turns}
+use Rattle.tx_simulation.proofs.Holds.{aborts-after, rooms}
+use Rattle.tx_simulation.proofs.Points.{AgreeIn, At, IfInside, IsFree, IsStored, Late, checks_onto, names_at}
 use Rattle.tx_simulation.proofs.Quiet.{looks}
+use Rattle.tx_simulation.proofs.Scene.{AfterTurn, PointAt, Scene, by-head, code-after, here, now, seen, trapping}
+use Rattle.tx_simulation.proofs.Silent.{compares, passes}
+use Rattle.tx_simulation.proofs.Walks.{frame}
 
--- a store whose checks are left, and what is known there
 pub record IsLate (mode : Mode) (c : Scene mode) : Type 0 where
   pub ty : Ty
   pub ptr : Val
@@ -56,16 +51,6 @@ pub record IsLate (mode : Mode) (c : Scene mode) : Type 0 where
   pub stored : IfInside mode (IsStored mode (seen mode c) (place_at address w) n)
   pub masters : On c.sides M (AgreeIn (names_at c.m c.a.frame.function) c.b.frame.masters c.a.frame.registers)
   pub shadows : On c.sides S (AgreeIn (names_at c.m c.a.frame.function) c.b.frame.shadows c.a.frame.registers)
-
--- what is read was not what was asked for: the thread is aborted, after those in its way
-mismatches : (tx : Transaction) (c : Scene (Inside tx)) (touch : Touch)
-    → AfterTurn (Inside tx) c (matched (now (Inside tx) c) c.t (here (Inside tx) c) c.b touch false)
-mismatches tx c touch =
-    Runs c.s _ c.turns c.upsets refl (stays-kept c.m c.h c.arguments c.s c.workers c.turns c.upsets c.facts c.t c.x (here (Inside tx) c) c.at c.hard_at
-    (record { touch = Some touch; mutex = None }) (aborted Mismatch (here (Inside tx) c))
-    (worker-aborted c.m c.h c.s.process.memory c.t c.x (here (Inside tx) c) Mismatch (c.facts.all.each c.t c.x (here (Inside tx) c) c.at c.hard_at))
-    (λ mode clear apart line p q. never-both false refl p) (λ mode clear apart line p q. never-both false refl q) (λ a e. absurd (never-both false refl e))
-    (named-aborted c.upsets Mismatch (here (Inside tx) c) (c.facts.all.named c.t (here (Inside tx) c) c.hard_at)))
 
 -- the check of memory stands before the frame, with checks of the pointer before it or none
 abbrev pub IsBefore : (mode : Mode) (c : Scene mode) → IsLate mode c → List (Ty × Val) → List HInst → Type 0
@@ -91,7 +76,8 @@ module _ (tx : Transaction) (c : Scene (Inside tx)) (o : IsLate (Inside tx) c) (
           (sym (code-after (Inside tx) c c.b.frame (ChkMem o.ty (on_shadow o.ptr) (on_shadow o.val)) o.rest code)) o.rows) o.masters o.shadows;
     };
   })
-  compared touch false = mismatches tx c touch
+  compared touch false = aborts-after c.m c.h c.arguments c.s c.workers c.turns c.upsets c.facts c.t c.x c.at (here (Inside tx) c) c.hard_at
+      (record { touch = Some touch; mutex = None }) Mismatch
 
   by-valid : (touch : Touch) (n : ℕ) (b : Bool) → AfterTurn (Inside tx) c (read_back c.h (now (Inside tx) c) c.t (here (Inside tx) c) c.b tx touch n b)
   by-valid touch n true = rooms c.m c.h c.arguments c.s c.workers c.turns c.upsets c.facts c.t c.x c.at (here (Inside tx) c) c.hard_at (has_room touch tx.footprint) _

@@ -53,3 +53,5 @@ pub mod Dooms
 pub mod LateChecks
 pub mod Copies
 pub mod Guarded
+pub mod Bodies
+pub mod PointTurns
