@@ -55,3 +55,5 @@ pub mod Copies
 pub mod Guarded
 pub mod Bodies
 pub mod PointTurns
+pub mod Lost
+pub mod ThreadTurns
