@@ -52,3 +52,4 @@ pub mod Stores
 pub mod Dooms
 pub mod Windowed
 pub mod StrikeFrames
+pub mod StrikeStacks
