@@ -53,3 +53,4 @@ pub mod Dooms
 pub mod Windowed
 pub mod StrikeFrames
 pub mod StrikeStacks
+pub mod StrikeWorkers
