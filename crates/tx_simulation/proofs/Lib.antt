@@ -54,3 +54,5 @@ pub mod Windowed
 pub mod StrikeFrames
 pub mod StrikeStacks
 pub mod StrikeWorkers
+pub mod Strikes
+pub mod Events
