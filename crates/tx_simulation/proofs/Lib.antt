@@ -56,3 +56,4 @@ pub mod StrikeStacks
 pub mod StrikeWorkers
 pub mod Strikes
 pub mod Events
+pub mod Results
