@@ -1,6 +1,6 @@
 -- What holds is kept by every event, and so by whole runs: by turns, which is the premise here, by aborts and by upsets. What has stopped stays,
 -- and so does a run that the theorem doesn't speak of.
-use Rattle.std.proofs.Common.{ℕ, ◌≡◌, ◌∙◌, Bool, true, List, [], ◌∷◌, Option, Some, None, slice_get, refl, ap, sym, subst}
+use Rattle.std.proofs.Common.{ℕ, ◌≡◌, List, [], ◌∷◌, Option, Some, None, slice_get, refl, sym, subst}
 use Rattle.ir_core.specs.Module.{ModuleParts}
 use Rattle.ir_check.specs.Faults.{IsAccepted}
 use Rattle.src_meaning.specs.State.{State as SourceState}

@@ -1,5 +1,5 @@
 -- What a run comes to: what holds at its end says that its result stands for the source, unless an upset struck that isn't covered.
-use Rattle.std.proofs.Common.{ℕ, suc, ◌≡◌, ◌↔◌, ◌∙◌, Bool, true, false, ◌&&◌, ◌||◌, List, [], ◌∷◌, Option, Some, None, slice_get, refl, ap, sym, subst}
+use Rattle.std.proofs.Common.{ℕ, suc, ◌≡◌, ◌↔◌, Bool, true, false, ◌||◌, List, [], ◌∷◌, Option, Some, None, refl, ap, sym, subst}
 use Rattle.std.specs.Prelude.{unwrap_or}
 use Rattle.std.specs.List.{list_all, list_any}
 use Rattle.ir_core.proofs.Lengths.{both_true}
@@ -19,8 +19,7 @@ use Rattle.hard_simulation.specs.Meaning.{AllWent, code_of, IsFailure}
 use Rattle.hard_meaning.specs.State.{Worker, Upset, Nowhere, OnAnother, InWindow, Struck, State, opening}
 use Rattle.hard_meaning.specs.Records.{Record, Missed, Window, Hit, Undone, Stacked, record_of, records_from, records}
 use Rattle.hard_meaning.specs.Runs.{RunParts, run_from, result_of, run_on}
-use Rattle.tx_simulation.specs.Meaning.{is_covered, is_hit, is_gone, AreCovered, AreGone, SomeHit, Means}
-use Rattle.tx_simulation.proofs.Lines.{never-both}
+use Rattle.tx_simulation.specs.Meaning.{is_covered, is_hit, AreCovered, AreGone, SomeHit, Means}
 use Rattle.tx_simulation.proofs.Facts.{machine_of}
 use Rattle.tx_simulation.proofs.Holds.{is_broken, end_of, IsHit, IsOver, Holds, Runs, Over, Broken}
 use Rattle.tx_simulation.proofs.Strikes.{record-hit}

@@ -1,8 +1,6 @@
 -- A point outlives an upset: what is known beside sides is in a window, and the side that was struck isn't known from then on.
-use Rattle.std.proofs.Common.{ℕ, zero, suc, ◌≡◌, ◌≢◌, ◌∙◌, Bool, true, false, List, [], ◌∷◌, ◌++◌, Option, Some, None, slice_get, slice_set, refl, ap, sym, subst}
-use Rattle.std.specs.Prelude.{nat_eq}
+use Rattle.std.proofs.Common.{ℕ, suc, ◌≡◌, ◌∙◌, Bool, true, false, List, [], ◌∷◌, Option, Some, slice_get, refl, ap, sym, subst}
 use Rattle.std.specs.Option.{option_map}
-use Rattle.std.proofs.lemmas.Bool.{eqb-true, eqb-false}
 use Rattle.ir_core.specs.declared.types.Ty.{Ty}
 use Rattle.ir_core.specs.declared.types.Loc.{Loc}
 use Rattle.ir_core.specs.declared.values.Val.{Val}
@@ -23,13 +21,12 @@ use Rattle.hard_ir.specs.declared.instruction.HInst.{HInst}
 use Rattle.hard_ir.specs.declared.instruction.HInst.TheVariants.{End}
 use Rattle.hard_ir.specs.declared.instruction.When.TheVariants.{Always}
 use Rattle.hard_ir.specs.Image.{checked_before}
-use Rattle.hard_ir.specs.Hardened.{HardParts}
 use Rattle.hard_simulation.proofs.Files.{AreFresh, is_among}
 use Rattle.hard_simulation.proofs.Sides.{Sides, Both, Alone, On, on-map, on-pure}
-use Rattle.hard_meaning.specs.State.{Transaction, Mode, Free, Inside, is_inside}
+use Rattle.hard_meaning.specs.State.{Mode, Free, Inside, is_inside}
 use Rattle.hard_meaning.specs.Windows.{is_effect, is_window}
 use Rattle.tx_simulation.proofs.Lines.{never-both}
-use Rattle.tx_simulation.proofs.Reading.{word_in, SameIn, AreSameIn}
+use Rattle.tx_simulation.proofs.Reading.{SameIn, AreSameIn}
 use Rattle.tx_simulation.proofs.Points.{checks_passed, core_onto, IfInside, IsFree, IfTrue, AgreeIn, AgreeBut, source_action, IsRead, IsStored, Stands, Nowhere, At, Checking, Outside, Doubling, Late, Copying, AtEdge}
 use Rattle.tx_simulation.proofs.Windowed.{master, checked-window, ended-window, copy-window}
 

@@ -1,11 +1,11 @@
 -- A thread outlives an upset in any of its frames: the side that was struck isn't known from then on, in any of them.
-use Rattle.std.proofs.Common.{ℕ, zero, suc, ◌≡◌, ◌∙◌, Bool, true, false, List, [], ◌∷◌, drop, take, reverse, Option, Some, None, slice_get, slice_set, refl, ap, sym, subst}
+use Rattle.std.proofs.Common.{ℕ, zero, suc, ◌≡◌, ◌∙◌, Bool, false, List, [], ◌∷◌, drop, take, reverse, Option, Some, None, slice_get, slice_set, refl, ap, sym, subst}
 use Rattle.std.specs.Option.{option_map, option_map_or, option_and_then}
 use Rattle.ir_core.specs.declared.values.Side.{Side}
 use Rattle.ir_core.specs.declared.values.Side.TheVariants.{M, S}
 use Rattle.ir_core.specs.Module.{ModuleParts, FuncParts}
 use Rattle.mem_image.specs.Bytes.{Memory}
-use Rattle.inst_meaning.specs.Registers.{get, put}
+use Rattle.inst_meaning.specs.Registers.{put}
 use Rattle.process.specs.declared.state.CallStack.{CallStack}
 use Rattle.process.specs.declared.state.Thread.{Thread}
 use Rattle.process.specs.declared.state.Thread.TheVariants.{Running, Exiting, Ended}
@@ -13,13 +13,12 @@ use Rattle.process_laws.proofs.Likeness as likeness
 use Rattle.sched_file.specs.declared.entries.UpsetSpec.{UpsetSpec}
 use Rattle.src_meaning.specs.declared.state.Frame.{Frame as SourceFrame}
 use Rattle.hard_ir.specs.declared.instruction.HReg.{HReg}
-use Rattle.hard_ir.specs.declared.instruction.HInst.{HInst}
 use Rattle.hard_ir.specs.declared.instruction.HBlock.{HBlock}
 use Rattle.hard_ir.specs.Hardened.{HardParts}
 use Rattle.hard_frames.specs.declared.state.Frame.{Frame}
-use Rattle.hard_frames.specs.Code.{blocks_at, list_at}
+use Rattle.hard_frames.specs.Code.{blocks_at}
 use Rattle.hard_frames.specs.Frames.{file, with_file}
-use Rattle.hard_simulation.proofs.Sides.{Sides, Both, Alone, On, on-map}
+use Rattle.hard_simulation.proofs.Sides.{Sides, Both, Alone, on-map}
 use Rattle.hard_simulation.proofs.Points.{source_code, hard_code}
 use Rattle.hard_meaning.specs.State.{Mode, is_inside}
 use Rattle.hard_meaning.specs.Strikes.{frame_at, with_frame, Target, target_with, struck_word, target_at, target_named, target_in, target_of, struck, window_at, is_in_window}

@@ -1,10 +1,8 @@
 -- A worker outlives an upset outside windows while it is whole: it is hurt from then on, and carries the upset's number.
-use Rattle.std.proofs.Common.{ℕ, zero, suc, ◌≡◌, ◌⊎◌, ◌∙◌, Bool, true, false, ◌||◌, List, [], ◌∷◌, ◌++◌, length, Option, Some, None, slice_get, refl, ap, sym, subst, inl, inr, nat_eq, eq-eqb, eqb-true}
-use Rattle.ir_core.specs.declared.values.Side.{Side}
+use Rattle.std.proofs.Common.{ℕ, zero, suc, ◌≡◌, ◌⊎◌, ◌∙◌, Bool, true, false, ◌||◌, List, [], ◌∷◌, ◌++◌, length, Some, slice_get, refl, ap, sym, subst, inl, inr, nat_eq, eq-eqb, eqb-true}
 use Rattle.ir_core.specs.Module.{ModuleParts}
 use Rattle.line_sets.specs.Sets.{has}
 use Rattle.mem_image.specs.Bytes.{Memory}
-use Rattle.mem_image.specs.Lines.{line_of}
 use Rattle.rtm_core.specs.Footprint.{seen_through}
 use Rattle.inst_meaning.specs.declared.actions.Place.{Place}
 use Rattle.process.specs.declared.state.Thread.{Thread}
@@ -17,9 +15,9 @@ use Rattle.hard_simulation.proofs.Sides.{Sides, Both, Alone, IsHurt}
 use Rattle.hard_meaning.specs.State.{Transaction, Mode, Free, Inside, Worker, Upset, Struck}
 use Rattle.hard_meaning.specs.Records.{carries, struck_in}
 use Rattle.hard_meaning.specs.Strikes.{Target, struck, is_in_window, marked}
-use Rattle.tx_simulation.proofs.Points.{touched, IsThreadOn}
+use Rattle.tx_simulation.proofs.Points.{IsThreadOn}
 use Rattle.tx_simulation.proofs.Lines.{or-left, or-right}
-use Rattle.tx_simulation.proofs.Facts.{AllTouched, IsInside, IsDoomed, IsAstray, back_to, InTx, IsGoing, OkIn, IsCarried, IsWorker, AreNamed}
+use Rattle.tx_simulation.proofs.Facts.{AllTouched, IsInside, IsDoomed, IsAstray, back_to, InTx, OkIn, IsWorker, AreNamed}
 use Rattle.tx_simulation.proofs.Kept.{IsWithin, within-same}
 use Rattle.tx_simulation.proofs.Checking.{get-behind}
 use Rattle.tx_simulation.proofs.StrikeFrames.{struck_mode}

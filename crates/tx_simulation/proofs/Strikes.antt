@@ -1,6 +1,6 @@
 -- An upset keeps what holds: one that comes while another stands, or in a window, is one that the theorem doesn't speak of; while none stands
 -- each thread is whole, and the one that is struck is known by its other side.
-use Rattle.std.proofs.Common.{ℕ, zero, suc, ◌≡◌, ◌∙◌, ◌+◌, Bool, true, false, ◌||◌, List, [], ◌∷◌, ◌++◌, length, Option, Some, None, slice_get, slice_set, refl, ap, sym, subst, arith}
+use Rattle.std.proofs.Common.{ℕ, zero, suc, ◌≡◌, ◌∙◌, ◌+◌, Bool, true, false, ◌||◌, List, [], ◌∷◌, ◌++◌, length, Option, Some, None, slice_get, refl, ap, arith}
 use Rattle.std.specs.List.{list_any}
 use Rattle.std.proofs.lemmas.List.Folds.{list_any-append}
 use Rattle.ir_core.specs.Module.{ModuleParts}
@@ -10,13 +10,12 @@ use Rattle.src_meaning.specs.declared.state.Frame.{Frame as SourceFrame}
 use Rattle.src_meaning.specs.State.{State as SourceState}
 use Rattle.sched_file.specs.declared.entries.UpsetSpec.{UpsetSpec}
 use Rattle.hard_ir.specs.Hardened.{HardParts}
-use Rattle.hard_frames.specs.declared.state.Frame.{Frame}
 use Rattle.hard_simulation.proofs.Sides.{IsHurt}
 use Rattle.hard_meaning.specs.State.{Worker, Upset, Nowhere, OnAnother, InWindow, Struck, State}
-use Rattle.hard_meaning.specs.Records.{Record, Hit, carries, hit_if, record_of, records_from, records, stands, some_stands}
+use Rattle.hard_meaning.specs.Records.{Hit, carries, hit_if, record_of, records_from, records, stands, some_stands}
 use Rattle.hard_meaning.specs.Strikes.{Target, target_of, struck, is_in_window, kind_of, noted, struck_as, struck_at, upset_in, upset_by}
 use Rattle.tx_simulation.proofs.Lines.{never-both}
-use Rattle.tx_simulation.proofs.Facts.{IsWorker, AreWorkers, Facts, machine_of}
+use Rattle.tx_simulation.proofs.Facts.{IsWorker, Facts, machine_of}
 use Rattle.tx_simulation.proofs.Holds.{is_broken, Holds, Runs, Broken, moves}
 use Rattle.tx_simulation.proofs.StrikeStacks.{IsTarget, target-is}
 use Rattle.tx_simulation.proofs.StrikeWorkers.{hurt_worker, within-marked, worker-struck, named-still, named-struck}
