@@ -57,3 +57,10 @@ pub mod Bodies
 pub mod PointTurns
 pub mod Lost
 pub mod ThreadTurns
+pub mod Windowed
+pub mod StrikeFrames
+pub mod StrikeStacks
+pub mod StrikeWorkers
+pub mod Strikes
+pub mod Events
+pub mod Results
