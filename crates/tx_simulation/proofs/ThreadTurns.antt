@@ -19,7 +19,7 @@ use Rattle.tx_simulation.proofs.PointTurns.{turn-at}
 use Rattle.hard_meaning.specs.State.{Free, Inside, Mode, State, Transaction, Upset, Worker, seen_in}
 use Rattle.hard_meaning.specs.Turns as hard
 use Rattle.hard_meaning.specs.Turns.{turn_of, turned_by}
-use Rattle.tx_simulation.proofs.Blocks.{same-place}
+use Rattle.renamed_modules.proofs.SamePlaces.{same-place}
 use Rattle.tx_simulation.proofs.Facts.{Facts, IsAstray, IsCarried, IsDoomed, IsInside, IsWorker, OkIn, back_to, machine_of}
 use Rattle.tx_simulation.proofs.Holds.{Holds, Runs}
 use Rattle.tx_simulation.proofs.Inner.{LinkAt, link-of}

@@ -34,10 +34,10 @@ use Rattle.src_meaning.specs.State.{State, blocks_at, code_at, inst_at, main_of}
 use Rattle.src_meaning.specs.Step.{jumped, frames, opening, action_in, settled, fetched, exited, turned, unless_ended, step}
 use Rattle.src_meaning.specs.Races.{access_in, access_by, unless_over, next_access, is_race, pairs_of, race_of, IsGood}
 use Rattle.src_meaning.specs.Runs.{Run, run_from, source}
-use Rattle.tx_simulation.proofs.RenamedMemory.{renamed_span, renamed_layout, valid-same, opening-same}
-use Rattle.tx_simulation.proofs.RenamedActions.{renamed_action, acts-same}
-use Rattle.tx_simulation.proofs.Renames.{Renames, inside, layout-same, blocks-same, callees-same, main-same}
-use Rattle.tx_simulation.proofs.RenamedFrames.{within, SameFrame, alike, passes, results, suspends, resumes, entries, jumps}
+use Rattle.renamed_modules.proofs.RenamedMemory.{renamed_span, renamed_layout, valid-same, opening-same}
+use Rattle.renamed_modules.proofs.RenamedActions.{renamed_action, acts-same}
+use Rattle.renamed_modules.proofs.Renames.{Renames, inside, layout-same, blocks-same, callees-same, main-same}
+use Rattle.renamed_modules.proofs.RenamedFrames.{within, SameFrame, alike, passes, results, suspends, resumes, entries, jumps}
 
 -- a memory whose globals have their other numbers
 abbrev pub renamed_memory : Renaming → Memory → Memory

@@ -26,14 +26,15 @@ use Rattle.ir_numbering.specs.Numbers.{renamed_named}
 use Rattle.hard_ir.specs.Images.{IsSameModule}
 use Rattle.src_meaning.specs.Races.{IsGood}
 use Rattle.src_meaning.specs.Runs.{source as source_run}
-use Rattle.tx_simulation.proofs.Blocks.{same-place}
-use Rattle.tx_simulation.proofs.SameModules.{AreNumbered, renames, same-answers, same-outputs, same-good}
-use Rattle.tx_simulation.proofs.Renames.{Renames, main-of}
-use Rattle.tx_simulation.proofs.RenamedLines.{in_, names_of_func, func_by, renamed_line, funcs-here, duplicates-same, unknowns-same, rules-same}
-use Rattle.tx_simulation.proofs.RenamedLimits.{AreFew, limits-same}
-use Rattle.tx_simulation.proofs.RenamedFlow.{ends-same, begins-same, enters-same, phis-fit, uses-assigned}
-use Rattle.tx_simulation.proofs.RenamedCalls.{calls-same}
-use Rattle.tx_simulation.proofs.RenamedKinds.{parts-same, entries-same, fits-same, inits-same}
+use Rattle.renamed_modules.specs.Numbered.{AreNumbered}
+use Rattle.renamed_modules.proofs.SamePlaces.{same-place}
+use Rattle.renamed_modules.proofs.SameModules.{renames, same-answers, same-outputs, same-good}
+use Rattle.renamed_modules.proofs.Renames.{Renames, main-of}
+use Rattle.renamed_modules.proofs.RenamedLines.{in_, names_of_func, func_by, renamed_line, funcs-here, duplicates-same, unknowns-same, rules-same}
+use Rattle.renamed_modules.proofs.RenamedLimits.{AreFew, limits-same}
+use Rattle.renamed_modules.proofs.RenamedFlow.{ends-same, begins-same, enters-same, phis-fit, uses-assigned}
+use Rattle.renamed_modules.proofs.RenamedCalls.{calls-same}
+use Rattle.renamed_modules.proofs.RenamedKinds.{parts-same, entries-same, fits-same, inits-same}
 
 any-pairs : {A B : Type 0} (p : A → Bool) (q : B → Bool) (xs : List A) (ys : List B) → length ys ≡ length xs
     → ((n : ℕ) (x : A) (y : B) → slice_get xs n ≡ Some x → slice_get ys n ≡ Some y → q y ≡ p x) → list_any q ys ≡ list_any p xs
@@ -156,28 +157,16 @@ module _ (m other : ModuleParts) (r : Renames m other) where
           (nothing _ _ (rule-same TypeMismatch (types_keep m) (types_keep other) kinds-same f.0)
           (nothing _ _ main (rule-same EntryHasPredecessor entries_keep entries_keep entries-kept g.1)))))))
 
--- ---- images by names
-
--- a module that stands for an accepted one, whatever its names are numbered by
-pub record IsStandIn (m source : ModuleParts) : Type 0 where
-  pub accepted : IsAccepted source
-  pub good : (arguments : List ℕ) → IsGood m arguments → IsGood source arguments
-  pub answers : (arguments turns : List ℕ) → (source_run source arguments turns).answers ≡ (source_run m arguments turns).answers
-  pub outputs : (arguments turns : List ℕ) → (source_run source arguments turns).state.process.world.outputs ≡ (source_run m arguments turns).state.process.world.outputs
-
-few-names : (m other : ModuleParts) (r : Renames m other) → ((n : ℕ) (g : FuncParts) → slice_get other.funcs n ≡ Some g → over 65536 (length g.names) Registers ≡ None) → AreFew m other r
+few-names : (m other : ModuleParts) (r : Renames m other) → HasFewNames other → AreFew m other r
 few-names m other r few n = by (slice_get other.funcs n) refl
   where
+    fits : (count : ℕ) → count ≤ 65536 → over 65536 count Registers ≡ None
+    fits count few = let no_more : nat_lt 65536 count ≡ false = grind (arith, nat_tests) in rw no_more refl
+
     by : (o : Option FuncParts) → slice_get other.funcs n ≡ o → over 65536 (length (option_map_or (λ (g : FuncParts). g.names) o [])) Registers ≡ None
     by None e = refl
-    by (Some g) e = few n g e
+    by (Some g) e = fits (length g.names) (few n g e)
 
--- the same module under other numbers, where its names are in tables and the other tables aren't too long
-pub stands-in : (m source : ModuleParts) (same : IsSameModule m source) → AreNumbered m → IsAccepted m
-    → ((n : ℕ) (g : FuncParts) → slice_get source.funcs n ≡ Some g → over 65536 (length g.names) Registers ≡ None) → IsStandIn m source
-stands-in m source same numbered accepted few = record {
-  accepted = accepted-again m source (renames m source same numbered) accepted (few-names m source (renames m source same numbered) few);
-  good = λ arguments good. same-good m source same numbered arguments good;
-  answers = λ arguments turns. same-answers m source same numbered arguments turns;
-  outputs = λ arguments turns. same-outputs m source same numbered arguments turns;
-}
+pub accepted-where-few : (m other : ModuleParts) (same : IsSameModule m other) → AreNumbered m → IsAccepted m → HasFewNames other → IsAccepted other
+accepted-where-few m other same numbered accepted few =
+    accepted-again m other (renames m other same numbered) accepted (few-names m other (renames m other same numbered) few)

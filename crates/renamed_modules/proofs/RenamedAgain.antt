@@ -26,12 +26,8 @@ use Rattle.ir_numbering.specs.declared.places.Place.{Place}
 use Rattle.ir_numbering.specs.declared.places.Place.TheVariants.{Local, Struct, Global}
 use Rattle.ir_numbering.specs.Places.{places_step, places_of_ty, places_of_gep, places_of_val, places_init_step, places_of_init, places_of_option, places_of_args, places_of_arms, places_of_cases, places_of_index, places_of_inst, places_of_block, places_of_global, places_of_declare, mentions_of_func}
 use Rattle.ir_numbering.specs.Renaming.{Renaming, renamed_loc, renamed_sym, renamed_type_id, renamed_step, renamed_ty, renamed_gep, renamed_val, renamed_init_step, renamed_init, renamed_args, renamed_arms, renamed_cases, renamed_index, renamed_option, renamed_inst, renamed_block, renamed_param, renamed_func, renamed_global, renamed_declare}
+use Rattle.renamed_modules.specs.Numbered.{AllAt}
 use Rattle.ir_numbering.specs.Numbers.{places_of_named, renamed_named}
-
--- something holds at all places
-abbrev pub AllAt : (Place → Type 0) → List Place → Type 0
-AllAt P [] = Unit {0}
-AllAt P (place ∷ places) = P place × AllAt P places
 
 pub front-at : (P : Place → Type 0) (xs ys : List Place) → AllAt P (xs ++ ys) → AllAt P xs
 front-at P [] ys all = tt

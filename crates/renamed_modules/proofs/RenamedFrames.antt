@@ -24,10 +24,10 @@ use Rattle.process_laws.proofs.Likeness as likeness
 use Rattle.src_meaning.specs.declared.state.Frame.{Frame}
 use Rattle.src_meaning.specs.State.{blocks_at, params_at, entry_frame}
 use Rattle.src_meaning.specs.Step.{passed, resulted, landed, land, jump_from, jump_in, jumped, suspended, resumed}
-use Rattle.tx_simulation.proofs.RenamedTypes.{IsApart, same-test, find-map, take-map}
-use Rattle.tx_simulation.proofs.RenamedMemory.{renamed_layout}
-use Rattle.tx_simulation.proofs.RenamedActions.{AgreeBy, typed-same}
-use Rattle.tx_simulation.proofs.Renames.{Renames, inside, layout-same, blocks-same, params-same}
+use Rattle.renamed_modules.proofs.RenamedTypes.{IsApart, same-test, find-map, take-map}
+use Rattle.renamed_modules.proofs.RenamedMemory.{renamed_layout}
+use Rattle.renamed_modules.proofs.RenamedActions.{AgreeBy, typed-same}
+use Rattle.renamed_modules.proofs.Renames.{Renames, inside, layout-same, blocks-same, params-same}
 
 -- ---- registers
 

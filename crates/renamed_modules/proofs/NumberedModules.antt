@@ -17,9 +17,9 @@ use Rattle.ir_numbering.specs.Places.{definitions_of_func, mentions_of_func, pla
 use Rattle.ir_numbering.specs.Renaming.{Renaming}
 use Rattle.ir_numbering.specs.Numbers.{locals_at, structs_at, globals_at, with_names, module_with, renaming_of, renaming_outside, numbered_func, places_of_named, places_of_module, numbered_module}
 use Rattle.ir_numbering.proofs.Kept.{HasNumber-with}
-use Rattle.tx_simulation.proofs.RenamedAgain.{AllAt, front-at, back-at}
-use Rattle.tx_simulation.proofs.RenamedPlaces.{renamed_place, mentions-moved, types-moved, globals-moved, declares-moved}
-use Rattle.tx_simulation.proofs.SameModules.{AreDistinct, IsWithin, IsOuter, AreNumbered}
+use Rattle.renamed_modules.specs.Numbered.{AllAt, AreDistinct, IsWithin, IsOuter, AreNumbered}
+use Rattle.renamed_modules.proofs.RenamedAgain.{front-at, back-at}
+use Rattle.renamed_modules.proofs.RenamedPlaces.{renamed_place, mentions-moved, types-moved, globals-moved, declares-moved}
 
 -- ---- tables
 

@@ -27,9 +27,9 @@ use Rattle.ir_numbering.specs.declared.places.Place.TheVariants.{Local, Struct, 
 use Rattle.ir_numbering.specs.Places.{places_of_ty, places_of_global, places_of_declare, places_of_head, places_of_inst}
 use Rattle.ir_numbering.specs.Renaming.{Renaming, renamed_loc, renamed_sym, renamed_type_id, renamed_inst, renamed_block, renamed_param, renamed_func, renamed_global, renamed_declare}
 use Rattle.ir_numbering.specs.Numbers.{renamed_named}
-use Rattle.tx_simulation.proofs.RenamedTypes.{same-test, find-map}
-use Rattle.tx_simulation.proofs.RenamedPlaces.{renamed_place, ty-moved, global-moved, declare-moved, params-moved, inst-moved, three}
-use Rattle.tx_simulation.proofs.Renames.{Renames, inside, func-at}
+use Rattle.renamed_modules.proofs.RenamedTypes.{same-test, find-map}
+use Rattle.renamed_modules.proofs.RenamedPlaces.{renamed_place, ty-moved, global-moved, declare-moved, params-moved, inst-moved, three}
+use Rattle.renamed_modules.proofs.Renames.{Renames, inside, func-at}
 
 pub flat-images : {A B C D : Type 0} (f : A → B) (g : B → List D) (h : A → List C) (k : C → D) → ((x : A) → g (f x) ≡ map k (h x)) → (xs : List A)
     → flat_map g (map f xs) ≡ map k (flat_map h xs)

@@ -30,8 +30,8 @@ use Rattle.inst_meaning.specs.declared.actions.Action.TheVariants.{Assign, Reser
 use Rattle.inst_meaning.specs.Action.{truth, is_cast, place_at, on_word, on_width, operated, element, inner_pointer, case_of, returning, asked, function_of, named_function, creating, asking, outside, entering, calling, action_of}
 use Rattle.inst_meaning.specs.Operands.{width_step, width_of, in_bytes, memory_width, word_of, word_at, typed_word, argument_words, index_words}
 use Rattle.inst_meaning.specs.Registers.{get}
-use Rattle.tx_simulation.proofs.RenamedTypes.{IsApart, numbered_layer, out-renamed, offset-same}
-use Rattle.tx_simulation.proofs.RenamedMemory.{renamed_layout, address-same, inner-address-same, size-in-same}
+use Rattle.renamed_modules.proofs.RenamedTypes.{IsApart, numbered_layer, out-renamed, offset-same}
+use Rattle.renamed_modules.proofs.RenamedMemory.{renamed_layout, address-same, inner-address-same, size-in-same}
 
 -- ---- widths
 

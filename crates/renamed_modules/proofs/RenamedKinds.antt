@@ -33,8 +33,8 @@ use Rattle.ir_types.specs.Meanings.{Meaning, Label, Register, Pair, result_of, p
 use Rattle.ir_types.specs.Types.{int_width_step, int_width, is_ptr_step, is_ptr, is_void_step, is_void, is_aggregate_step, pair_type, is_register_of, is_label, names_label, is_pair_of, gep_fits, operand_fits, typed_index, typed_arm, typed_operands, labels_in, cast_fits, holds_of, as_constant, enter, indices_fit, ret_fits, form_fits, inst_fits, is_byte_array_step, is_byte_array, part_fits, fields_fit, elements_fit, parts_fit, init_step, init_fits, has_no_parts}
 use Rattle.ir_numbering.specs.Renaming.{Renaming, renamed_loc, renamed_sym, renamed_step, renamed_ty, renamed_val, renamed_gep, renamed_args, renamed_arms, renamed_cases, renamed_index, renamed_option, renamed_init_step, renamed_init, renamed_inst, renamed_block, renamed_param}
 use Rattle.ir_numbering.specs.Numbers.{renamed_named}
-use Rattle.tx_simulation.proofs.RenamedTypes.{IsApart, same-test, find-map, numbered_layer, out-renamed, offset-same, fields-same, entered-same, type-same, int-again, ptr-again}
-use Rattle.tx_simulation.proofs.RenamedLines.{flat-images}
+use Rattle.renamed_modules.proofs.RenamedTypes.{IsApart, same-test, find-map, numbered_layer, out-renamed, offset-same, fields-same, entered-same, type-same, int-again, ptr-again}
+use Rattle.renamed_modules.proofs.RenamedLines.{flat-images}
 
 module _ (r : Renaming) where
   -- ---- kinds of types

@@ -16,21 +16,18 @@ use Rattle.ir_numbering.specs.Renaming.{Renaming}
 use Rattle.hard_ir.specs.Images.{Keeps, IsSameModule}
 use Rattle.src_meaning.specs.Races.{IsGood}
 use Rattle.src_meaning.specs.Runs.{source}
-use Rattle.tx_simulation.proofs.RenamedTypes.{IsApart}
-use Rattle.tx_simulation.proofs.RenamedAgain.{AllAt, AgreeAt, func-again, types-again, globals-again, declares-again}
-use Rattle.tx_simulation.proofs.Renames.{Renames, IsRenamedAt}
-use Rattle.tx_simulation.proofs.RenamedRuns.{sources, outputs, goods}
-use Rattle.tx_simulation.proofs.Blocks.{same-place}
+use Rattle.renamed_modules.specs.Numbered.{AllAt, AreDistinct, IsWithin, IsOuter, AreNumbered}
+use Rattle.renamed_modules.proofs.RenamedTypes.{IsApart}
+use Rattle.renamed_modules.proofs.RenamedAgain.{AgreeAt, func-again, types-again, globals-again, declares-again}
+use Rattle.renamed_modules.proofs.Renames.{Renames, IsRenamedAt}
+use Rattle.renamed_modules.proofs.RenamedRuns.{sources, outputs, goods}
+use Rattle.renamed_modules.proofs.SamePlaces.{same-place}
 
 -- ---- numbers past a table
 
 -- a numbering goes on past a table, past the other table
 abbrev pub carried_on : List (List ℕ) → List (List ℕ) → (ℕ → ℕ) → ℕ → ℕ
 carried_on from to number n = if nat_lt n (length from) then number n else length to + n
-
--- no name stands twice in a table
-abbrev pub AreDistinct : List (List ℕ) → Type 0
-AreDistinct names = (a b : ℕ) (name : List ℕ) → slice_get names a ≡ Some name → slice_get names b ≡ Some name → a ≡ b
 
 module _ (from to : List (List ℕ)) (number : ℕ → ℕ) (keeps : Keeps from to number) where
   abbrev number_on : ℕ → ℕ
@@ -84,28 +81,7 @@ module _ (from to : List (List ℕ)) (number : ℕ → ℕ) (keeps : Keeps from 
           let beyond : length to ≤ length to + n = omega arith in
           ap (slice_get to) (on-past n past) ∙ slice_get_past to (length to + n) beyond ∙ flip (slice_get_past from n past)
 
--- ---- modules whose names are in tables
-
--- a name at a place has a number in its table
-abbrev pub IsWithin : ModuleParts → List (List ℕ) → Place → Type 0
-IsWithin m names (Local at) = at.0 < length names
-IsWithin m names (Struct id) = id.0 < length m.type_names
-IsWithin m names (Global name) = name.0 < length m.syms
-
--- the same outside functions, where no register or label is told of
-abbrev pub IsOuter : ModuleParts → Place → Type 0
-IsOuter m (Local at) = Unit {0}
-IsOuter m (Struct id) = id.0 < length m.type_names
-IsOuter m (Global name) = name.0 < length m.syms
-
-pub record AreNumbered (m : ModuleParts) : Type 0 where
-  pub type_names : AreDistinct m.type_names
-  pub syms : AreDistinct m.syms
-  pub names : (n : ℕ) (f : FuncParts) → slice_get m.funcs n ≡ Some f → AreDistinct f.names
-  pub types : AllAt (IsOuter m) (flat_map places_of_named m.types)
-  pub globals : AllAt (IsOuter m) (flat_map places_of_global m.globals)
-  pub declares : AllAt (IsOuter m) (flat_map places_of_declare m.declares)
-  pub funcs : (n : ℕ) (f : FuncParts) → slice_get m.funcs n ≡ Some f → AllAt (IsWithin m f.names) (mentions_of_func f)
+-- ---- the same module
 
 all-so : (P Q : Place → Type 0) → ((place : Place) → P place → Q place) → (places : List Place) → AllAt P places → AllAt Q places
 all-so P Q so [] all = tt

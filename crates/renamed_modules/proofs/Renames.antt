@@ -23,8 +23,8 @@ use Rattle.inst_meaning.specs.declared.actions.Callee.{Callee}
 use Rattle.inst_meaning.specs.declared.actions.Callee.TheVariants.{Unknown}
 use Rattle.inst_meaning.specs.Action.{numbered_function, callee_of, callees_of}
 use Rattle.src_meaning.specs.State.{blocks_at, params_at, main_of}
-use Rattle.tx_simulation.proofs.RenamedTypes.{IsApart, same-test, type-same, int-again}
-use Rattle.tx_simulation.proofs.RenamedMemory.{renamed_layout, spans-same}
+use Rattle.renamed_modules.proofs.RenamedTypes.{IsApart, same-test, type-same, int-again}
+use Rattle.renamed_modules.proofs.RenamedMemory.{renamed_layout, spans-same}
 
 -- ---- modules
 

@@ -27,9 +27,9 @@ use Rattle.ir_check.specs.CodeLimits.{over, limit_in, limit_text, broken_limit}
 use Rattle.ir_check.proofs.ModuleLines.{neither, no-image}
 use Rattle.ir_numbering.specs.Renaming.{Renaming, renamed_ty, renamed_sym, renamed_val, renamed_gep, renamed_args, renamed_arms, renamed_index, renamed_option, renamed_init_step, renamed_init, renamed_inst, renamed_param, renamed_global, renamed_declare}
 use Rattle.ir_numbering.specs.Numbers.{renamed_named}
-use Rattle.tx_simulation.proofs.RenamedTypes.{IsApart, limit-same, size-same}
-use Rattle.tx_simulation.proofs.Renames.{Renames}
-use Rattle.tx_simulation.proofs.RenamedLines.{in_, names_of_func, func_by, renamed_line, code-same, none-told}
+use Rattle.renamed_modules.proofs.RenamedTypes.{IsApart, limit-same, size-same}
+use Rattle.renamed_modules.proofs.Renames.{Renames}
+use Rattle.renamed_modules.proofs.RenamedLines.{in_, names_of_func, func_by, renamed_line, code-same, none-told}
 
 -- ---- the types that are written
 

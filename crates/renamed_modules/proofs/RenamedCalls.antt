@@ -28,9 +28,9 @@ use Rattle.ir_calls.specs.declared.externals.External.TheVariants.{PthreadCreate
 use Rattle.ir_calls.specs.Externals.{Signature, signature_of, has_signature, external_of}
 use Rattle.ir_calls.specs.Calls.{Standing, Variable, Declared, Defined, of_global, of_declare, of_func, standings, first_standing, standing_of, is_callable, is_function, external_named, is_plain, are_plain, args_plain, values_of, plain_step, is_plain_init, takes, result_keeps, is_null, second_is_null, start_signature, is_start, names_start, third_is_start, without_third, args_keep, call_keeps, inst_keeps, declares_as, calls_keep}
 use Rattle.ir_numbering.specs.Renaming.{Renaming, renamed_loc, renamed_sym, renamed_ty, renamed_val, renamed_gep, renamed_args, renamed_arms, renamed_index, renamed_option, renamed_init_step, renamed_init, renamed_inst, renamed_param, renamed_global, renamed_declare}
-use Rattle.tx_simulation.proofs.RenamedTypes.{IsApart, same-test, type-same, all-same, void-again, int-again, ptr-again}
-use Rattle.tx_simulation.proofs.Renames.{Renames, name-same}
-use Rattle.tx_simulation.proofs.RenamedLines.{in_, func_by, renamed_line, funcs-here}
+use Rattle.renamed_modules.proofs.RenamedTypes.{IsApart, same-test, type-same, all-same, void-again, int-again, ptr-again}
+use Rattle.renamed_modules.proofs.Renames.{Renames, name-same}
+use Rattle.renamed_modules.proofs.RenamedLines.{in_, func_by, renamed_line, funcs-here}
 
 module _ (r : Renaming) (apart : IsApart r.type_id) where
   -- ---- signatures

@@ -16,7 +16,7 @@ use Rattle.ir_layout.specs.Memory.{LayoutParts, spans_from, span_at, end_of, lie
 use Rattle.ir_numbering.specs.Renaming.{Renaming, renamed_ty, renamed_sym, renamed_gep, renamed_init, renamed_init_step, renamed_global}
 use Rattle.ir_numbering.specs.Numbers.{renamed_named}
 use Rattle.mem_image.specs.Opening.{size_in, address_in, inner_address, with_part, init_step, bytes_given, bytes_of_init, with_global, opening}
-use Rattle.tx_simulation.proofs.RenamedTypes.{IsApart, same-test, find-map, reverse-map, known-same, size-same, limit-same, offset-same}
+use Rattle.renamed_modules.proofs.RenamedTypes.{IsApart, same-test, find-map, reverse-map, known-same, size-same, limit-same, offset-same}
 
 -- a place with the other number of its global
 abbrev pub renamed_span : Renaming → Span → Span

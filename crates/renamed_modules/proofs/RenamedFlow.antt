@@ -21,9 +21,9 @@ use Rattle.ir_flow.specs.Phis.{IsFitting, PhiAt, phi_at, phis_of_body, phis_from
 use Rattle.ir_flow.specs.Uses.{reg_in, reg_in_arg, reg_in_index, reg_in_option, regs_in, arms_in, uses_here, uses_at_end, uses_of_arm, uses_of_inst, uses_of_body, uses_from, uses_of, UseAssigned, AllAssigned}
 use Rattle.ir_check.specs.Blocks.{is_terminator, ends_well, begins_well, enters}
 use Rattle.ir_numbering.specs.Renaming.{Renaming, renamed_loc, renamed_ty, renamed_val, renamed_args, renamed_arms, renamed_cases, renamed_index, renamed_option, renamed_inst, renamed_block, renamed_param, renamed_func}
-use Rattle.tx_simulation.proofs.RenamedTypes.{IsApart, same-test, take-map}
-use Rattle.tx_simulation.proofs.RenamedFrames.{numbers-same, phi-kind}
-use Rattle.tx_simulation.proofs.RenamedLines.{flat-images, any-images, result-same}
+use Rattle.renamed_modules.proofs.RenamedTypes.{IsApart, same-test, take-map}
+use Rattle.renamed_modules.proofs.RenamedFrames.{numbers-same, phi-kind}
+use Rattle.renamed_modules.proofs.RenamedLines.{flat-images, any-images, result-same}
 
 -- ---- lists
 
