@@ -1,4 +1,6 @@
 -- An accepted module is accepted under other numbers, where no function's table of names is too long.
+use Rattle.std.specs.Prelude.{nat_lt, ◌≤◌}
+use Rattle.std.proofs.lemmas.Bool.Decides.{nat_tests}
 use Rattle.std.proofs.Common.{ℕ, suc, ◌≡◌, ◌∙◌, ◌&&◌, Bool, true, false, not, List, [], ◌∷◌, map, length, Option, Some, None, slice_get, refl, ap, sym as flip, subst, arith}
 use Rattle.std.specs.Prelude.{◌==◌, if◌then◌else◌}
 use Rattle.std.specs.List.{list_all, list_any}
@@ -26,7 +28,7 @@ use Rattle.ir_numbering.specs.Numbers.{renamed_named}
 use Rattle.hard_ir.specs.Images.{IsSameModule}
 use Rattle.src_meaning.specs.Races.{IsGood}
 use Rattle.src_meaning.specs.Runs.{source as source_run}
-use Rattle.renamed_modules.specs.Numbered.{AreNumbered}
+use Rattle.renamed_modules.specs.Numbered.{AreNumbered, HasFewNames}
 use Rattle.renamed_modules.proofs.SamePlaces.{same-place}
 use Rattle.renamed_modules.proofs.SameModules.{renames, same-answers, same-outputs, same-good}
 use Rattle.renamed_modules.proofs.Renames.{Renames, main-of}

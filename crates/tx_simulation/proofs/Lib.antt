@@ -48,3 +48,4 @@ pub mod StrikeWorkers
 pub mod Strikes
 pub mod Events
 pub mod Results
+pub mod Headline
