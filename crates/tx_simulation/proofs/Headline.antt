@@ -11,7 +11,7 @@ use Rattle.src_meaning.specs.Races.{IsGood}
 use Rattle.src_meaning.specs.Runs.{source}
 use Rattle.hard_ir.specs.Hardened.{HardParts, head_of, heads_of}
 use Rattle.hard_ir.specs.Images.{IsLooseImage, IsNamedImage}
-use Rattle.hard_ir.specs.declared.instruction.HInst.TheVariants.{End}
+use Rattle.hard_frames.specs.declared.outcome.Stop.TheVariants.{End}
 use Rattle.hard_laws.proofs.ImageRows.{image-loose}
 use Rattle.hard_frames.specs.declared.outcome.Stop.{Stop}
 use Rattle.hard_machine.specs.Runs.{is_no_upset}
