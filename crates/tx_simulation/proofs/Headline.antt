@@ -15,7 +15,6 @@ use Rattle.hard_frames.specs.declared.outcome.Stop.TheVariants.{End}
 use Rattle.hard_laws.proofs.ImageRows.{image-loose}
 use Rattle.hard_frames.specs.declared.outcome.Stop.{Stop}
 use Rattle.hard_machine.specs.Runs.{is_no_upset}
-use Rattle.hard_simulation.proofs.Kept.{fails}
 use Rattle.hard_simulation.specs.Meaning.{AllWent, IsFailure, IsUpsetFree, code_of}
 use Rattle.hard_meaning.specs.Records.{records_from}
 use Rattle.hard_meaning.specs.Runs.{RunParts, happened, happens, run_from, run_on, unless_stopped}

@@ -176,20 +176,23 @@ module _ (m : ModuleParts) (h : HardParts) (arguments : List ℕ) (image : IsLoo
     passes-late reg code wrong = settles m h arguments s workers turns upsets facts t x at v (Running stack) (Inside tx) hard_at sides hurt
         (in_frame stack (hard_frame.passed stack.frame)) v.attempts v.counter (record {
           kept = kept;
-          inner = inr (is_hurt, inl (record {
-            stack = record stack { frame = hard_frame.passed stack.frame };
-            is = refl;
-            ty = ty;
-            ptr = ptr;
-            val = val;
-            w = w;
-            width = width;
-            pointers = [];
-            rest = rest;
-            code = drop-suc (list_at (blocks_at h stack.frame.function) stack.frame.block) stack.frame.index _ _ code;
-            one = inl refl;
-            wrong = wrong;
-          }));
+          inner = inr (
+            is_hurt,
+            inl (record {
+              stack = record stack { frame = hard_frame.passed stack.frame };
+              is = refl;
+              ty = ty;
+              ptr = ptr;
+              val = val;
+              w = w;
+              width = width;
+              pointers = [];
+              rest = rest;
+              code = drop-suc (list_at (blocks_at h stack.frame.function) stack.frame.block) stack.frame.index _ _ code;
+              one = inl refl;
+              wrong = wrong;
+            }),
+          );
         })
 
     module _ (reg : Loc) (is : ptr ≡ values.Reg reg) (code : hard_code h stack.frame ≡ Chk Tx types.Ptr reg ∷ ChkMem ty (on_shadow ptr) (on_shadow val) ∷ rest)

@@ -17,9 +17,10 @@ returns-clause-never_fails c = λ m h arguments events accepted image good gone 
 
 pub returns-clause-without_upsets : goal.returns-clause-without_upsets
 returns-clause-without_upsets c = λ m h arguments events accepted image good free.
-    let none = sym (unstruck h arguments events free) in
-    (meant m h arguments accepted image good events (subst (λ (list : List Record). AreCovered list) none refl),
-    λ failed. never-fails m h arguments accepted image good events (subst (λ (list : List Record). AreGone list) none refl) failed)
+    let none = sym (unstruck h arguments events free) in (
+      meant m h arguments accepted image good events (subst (λ (list : List Record). AreCovered list) none refl),
+      λ failed. never-fails m h arguments accepted image good events (subst (λ (list : List Record). AreGone list) none refl) failed,
+    )
 
 pub returns-clause-by_names : goal.returns-clause-by_names
 returns-clause-by_names c = λ m h arguments events accepted numbered image few good covered. named-meant m h arguments accepted numbered image few good events covered
