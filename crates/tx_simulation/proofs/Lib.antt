@@ -49,3 +49,5 @@ pub mod Strikes
 pub mod Events
 pub mod Results
 pub mod Headline
+pub mod GoodRuns
+pub mod GoodSum
