@@ -51,3 +51,6 @@ pub mod Results
 pub mod Headline
 pub mod GoodRuns
 pub mod GoodSum
+pub mod PlainTypes
+pub mod AcceptedSamples
+pub mod GoodThreads
