@@ -54,3 +54,4 @@ pub mod GoodSum
 pub mod PlainTypes
 pub mod AcceptedSamples
 pub mod GoodThreads
+pub mod GoodRows
