@@ -55,3 +55,4 @@ pub mod PlainTypes
 pub mod AcceptedSamples
 pub mod GoodThreads
 pub mod GoodRows
+pub mod GoodPrograms
