@@ -67,7 +67,7 @@ sum_main = main_with 1 (block 0 (sum_of ∷ out 0 (register 1) ∷ returned ∷ 
 
 pub sum-accepted : IsAccepted sum
 sum-accepted = record {
-  lines = none-of sum refl sum-unknowns sum-limits refl sum-calls sum-kinds sum-shapes; 
+  lines = none-of sum refl sum-unknowns sum-limits refl sum-calls sum-kinds sum-shapes;
   phis = one-function PhisFit sum_main tt;
   uses = one-function AllAssigned sum_main (all-assigned sum_main refl);
 }
