@@ -1,1 +1,2 @@
+mod GuardLaws
 mod IntervalLaws

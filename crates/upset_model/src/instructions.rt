@@ -9,8 +9,8 @@ use hard_ir::{HInst, HReg, HVal, When};
 use ir_core::{Inst, Loc, Side, Ty, Val, Width};
 use std::alloc::{AllocError, Global};
 
-// Whether two sides are the same.
-fn same_side(a: Side, b: Side) -> bool
+/// Whether two sides are the same.
+pub(crate) fn same_side(a: Side, b: Side) -> bool
     ensures { result ≡ same_side a b }
 {
     match a {

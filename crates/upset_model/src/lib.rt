@@ -5,12 +5,14 @@
 #![tactic(auto)]
 
 mod blocks;
+mod edges;
 mod instructions;
 mod records;
 mod strikes;
 mod windows;
 
 pub use blocks::Interval;
+pub use edges::edge_checked;
 pub use records::{Record, Records};
 pub use strikes::strike;
 pub use windows::in_window;
