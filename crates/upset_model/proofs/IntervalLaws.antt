@@ -137,7 +137,7 @@ module _ (inside : Bool) (r : HReg) where
   check-is (inst ∷ passed) zero q e =
       let at : q ≡ suc (length passed) = omega arith in
       let rest : stands_before (first_checked inside r passed) (length passed) ≡ checked_before inside r passed =
-          check-is passed zero (length passed) (omega arith) in
+      check-is passed zero (length passed) (omega arith) in
       ap (stands_before (first_checked inside r (inst ∷ passed))) at
       ∙ here-or (is_between inst) (checks inside r inst) (checked_before inside r passed) (first_checked inside r passed) (length passed)
       (check-between inside r inst) (check-lies passed) rest
@@ -182,7 +182,7 @@ same-regs a b e = by (same_side a.side b.side) refl
     by true s =
         let sides : a.side ≡ b.side = same-sides a.side b.side s in
         let numbers : a.loc.0 ≡ b.loc.0 =
-            eqb-true a.loc.0 b.loc.0 (sym (ap (λ (same : Bool). same && nat_eq a.loc.0 b.loc.0) s) ∙ e) in
+        eqb-true a.loc.0 b.loc.0 (sym (ap (λ (same : Bool). same && nat_eq a.loc.0 b.loc.0) s) ∙ e) in
         let with_side : Side → HReg = λ side. record { side = side; loc = a.loc } in
         let with_number : ℕ → HReg = λ n. record { side = b.side; loc = record { 0 = n } } in
         ap with_side sides ∙ ap with_number numbers
@@ -261,8 +261,8 @@ module _ (r : HReg) (inside : Bool) (q : ℕ) where
       let first : List Interval = after_check (on_side side reg) mode (length passed) (first_checked mode (on_side side reg) passed) in
       let rest : List Interval = checked_intervals mode side passed regs in
       let held : is_held r inside q first
-          ≡ (same_reg r (on_side side reg) && (same_mode inside mode && stands_before (first_checked mode r passed) q)) =
-          after-held mode (length passed) (on_side side reg) (first_checked mode (on_side side reg) passed) h ∙ own-held mode (on_side side reg) passed in
+      ≡ (same_reg r (on_side side reg) && (same_mode inside mode && stands_before (first_checked mode r passed) q)) =
+      after-held mode (length passed) (on_side side reg) (first_checked mode (on_side side reg) passed) h ∙ own-held mode (on_side side reg) passed in
       list_any-append (holds r inside q) first rest
       ∙ ap (λ (b : Bool). b || is_held r inside q rest) held
       ∙ ap (λ (b : Bool). (same_reg r (on_side side reg) && (same_mode inside mode && stands_before (first_checked mode r passed) q)) || b)
@@ -317,8 +317,6 @@ module _ (r : HReg) (inside : Bool) (q : ℕ) where
       ∙ own-mode held inside
       ∙ ap (λ (b : Bool). (is_effect inside edge_checked inst && is_among r side (regs_in inst)) && b) (check-is inside r passed d q e)
       ∙ sym (or-none ((is_effect inside edge_checked inst && is_among r side (regs_in inst)) && checked_behind inside r d passed))
-
-
 
   -- past an instruction it has none
   after-ends : (mode : Bool) (n : ℕ) (reg : HReg) (found : Option ℕ) → n < q → is_held r inside q (after_check reg mode n found) ≡ false

@@ -1,2 +1,3 @@
 mod GuardLaws
 mod IntervalLaws
+mod TableLaws

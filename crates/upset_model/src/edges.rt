@@ -79,13 +79,7 @@ fn first_compared(list: &[HInst]) -> Option<Loc>
                 ty,
                 reg,
             },
-        ) => {
-            if is_one_bit(ty) {
-                Some(*reg)
-            } else {
-                None
-            }
-        }
+        ) => { if is_one_bit(ty) { Some(*reg) } else { None } }
         _ => None,
     }
 }
@@ -159,7 +153,8 @@ pub(crate) fn checks_direction(from: Loc, number: u64, condition: Loc, block: &H
     ensures { result ≡ checks_direction from number condition block.now }
 {
     match first_compared(block.list.items()) {
-        Some(d) => takes_number(block, d, from, number) && takes_register(block, d, from, condition),
+        Some(d) => takes_number(block, d, from, number)
+            && takes_register(block, d, from, condition),
         None => false,
     }
 }
