@@ -1,17 +1,15 @@
 -- A block's branch is checked by its targets exactly where the branch in which it ends is.
-use Rattle.std.proofs.Common.{ℕ, zero, suc, ◌+◌, ◌≡◌, ◌<◌, ◌∙◌, Bool, true, false, ◌&&◌, not, List, [], ◌∷◌, length, Option, Some, None, refl, ap, sym, get_or, arith}
+use Rattle.std.proofs.Common.{ℕ, zero, suc, ◌≡◌, Bool, true, false, ◌&&◌, not, List, [], ◌∷◌, length, refl, sym, get_or, arith}
 use Rattle.std.specs.Prelude.{nat_eq}
 use Rattle.ir_core.specs.declared.types.Loc.{Loc}
-use Rattle.ir_core.specs.declared.values.Val.{Val}
 use Rattle.ir_core.specs.declared.values.Val.TheVariants as values
-use Rattle.ir_core.specs.declared.instruction.Inst.{Inst}
 use Rattle.ir_core.specs.declared.instruction.Inst.TheVariants as insts
 use Rattle.hard_ir.specs.declared.instruction.HInst.{HInst}
 use Rattle.hard_ir.specs.declared.instruction.HInst.TheVariants.{Cut, Begin, End, Tick, Chk, ChkMem, Mov, Do}
 use Rattle.hard_ir.specs.declared.instruction.HBlock.{HBlock}
 use Rattle.upset_model.specs.declared.edges.Guard.{Guard}
-use Rattle.upset_model.specs.Windows.{is_guarded, last_guarded, target_checks}
-use Rattle.upset_model.specs.Guards.{guard_if, guard_on, guard_in, guard_of, both_check, checked_by}
+use Rattle.upset_model.specs.Windows.{is_guarded, last_guarded}
+use Rattle.upset_model.specs.Guards.{guard_if, guard_in, guard_of, both_check, checked_by}
 
 module _ (blocks : List HBlock) (from : Loc) where
   two-labels : (same : Bool) (guard : Guard) → (not same && both_check blocks from guard) ≡ checked_by blocks from (guard_if same guard)

@@ -1,7 +1,7 @@
 -- The intervals of a block hold exactly its windows.
 use Rattle.std.proofs.Common.{ℕ, zero, suc, ◌+◌, ◌≤◌, ◌<◌, ◌≡◌, ◌∙◌, Bool, true, false, ◌&&◌, ◌||◌, List, [], ◌∷◌, ◌++◌, length, take, drop, reverse, Option, Some, None, refl, ap, sym, append-nil, append_assoc, arith}
 use Rattle.std.specs.Prelude.{nat_eq, nat_le}
-use Rattle.std.specs.List.{list_any, list_all}
+use Rattle.std.specs.List.{list_all}
 use Rattle.std.specs.Option.{option_or}
 use Rattle.std.proofs.lemmas.Bool.{eqb-true}
 use Rattle.std.proofs.lemmas.Bool.Decides.{nat_tests}
@@ -18,7 +18,7 @@ use Rattle.hard_ir.specs.declared.instruction.HInst.{HInst}
 use Rattle.hard_ir.specs.declared.instruction.HInst.TheVariants.{Cut, Begin, End, Tick, Chk, ChkMem, Mov, Do}
 use Rattle.upset_model.specs.declared.blocks.Interval.{Interval}
 use Rattle.upset_model.specs.Windows.{same_side, same_reg, is_among, checks, is_between, is_effect, uses, is_copy, copies, checked_before, used_next, copied_next, is_window, in_window}
-use Rattle.upset_model.specs.Intervals.{is_in, used_by, where_between, number_if, first_checked, index_if, copies_from, on_side, after_check, checked_intervals, intervals_if, effect_intervals, copy_interval, intervals_at, intervals_from, intervals_of, same_mode, holds, is_held}
+use Rattle.upset_model.specs.Intervals.{is_in, used_by, where_between, number_if, first_checked, index_if, copies_from, on_side, after_check, checked_intervals, intervals_if, effect_intervals, intervals_at, intervals_from, intervals_of, same_mode, holds, is_held}
 
 -- ---- tests of numbers
 

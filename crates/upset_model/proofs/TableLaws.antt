@@ -1,5 +1,5 @@
 -- The table of a module holds its windows; an index of labels grows by one block.
-use Rattle.std.proofs.Common.{ℕ, zero, suc, ◌+◌, ◌≡◌, ◌≢◌, ◌∙◌, ◌<◌, Bool, true, false, List, [], ◌∷◌, ◌++◌, length, map, take, drop, Option, Some, None, refl, ap, sym, subst, get_or, slice_get, arith, add-one}
+use Rattle.std.proofs.Common.{ℕ, zero, suc, ◌+◌, ◌≡◌, ◌≢◌, ◌∙◌, ◌<◌, Bool, true, false, List, [], ◌∷◌, ◌++◌, length, map, take, drop, Option, Some, refl, ap, sym, get_or, slice_get, add-one}
 use Rattle.std.specs.Prelude.{nat_eq}
 use Rattle.std.specs.List.{slice_index_or}
 use Rattle.std.specs.Option.{option_map_or, option_and_then}
@@ -13,7 +13,7 @@ use Rattle.hard_ir.specs.declared.instruction.HBlock.{HBlock}
 use Rattle.hard_ir.specs.Hardened.{HardParts}
 use Rattle.upset_model.specs.Windows.{is_edge_checked}
 use Rattle.upset_model.specs.Intervals.{is_held}
-use Rattle.upset_model.specs.Guards.{is_labelled, target, IsIndexFrom}
+use Rattle.upset_model.specs.Guards.{target, IsIndexFrom}
 use Rattle.upset_model.specs.Table.{in_window_of, block_intervals, func_intervals, table_of, HoldsWindows}
 use Rattle.upset_model.proofs.IntervalLaws.{windows-held}
 

@@ -1,5 +1,5 @@
 -- Branches that their targets check, by the branch in which a block ends.
-use Rattle.std.specs.Prelude.{ℕ, ◌≡◌, not, nat_eq, ◌&&◌, Bool, true, false, List, [], ◌∷◌, drop, Option, Some, None, slice_get}
+use Rattle.std.specs.Prelude.{ℕ, ◌≡◌, nat_eq, ◌&&◌, Bool, true, false, List, [], ◌∷◌, drop, Option, Some, None, slice_get}
 use Rattle.std.specs.List.{find}
 use Rattle.std.specs.Option.{option_map_or, option_and_then}
 use Rattle.ir_core.specs.declared.types.Loc.{Loc}

@@ -1,5 +1,5 @@
 -- The windows of a hardened module as a table: for each function and each block its intervals.
-use Rattle.std.specs.Prelude.{ℕ, ◌≡◌, Bool, false, List, [], map, Option, slice_get}
+use Rattle.std.specs.Prelude.{ℕ, ◌≡◌, Bool, false, List, [], map, slice_get}
 use Rattle.std.specs.List.{slice_index_or}
 use Rattle.std.specs.Option.{option_map_or}
 use Rattle.hard_ir.specs.declared.instruction.HReg.{HReg}

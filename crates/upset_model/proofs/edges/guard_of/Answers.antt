@@ -1,5 +1,4 @@
-use Rattle.std.proofs.Common.{ℕ, ◌≡◌, ◌∙◌, ◌-◌, ◌<◌, suc, length, ap, sym, arith}
-use Rattle.hard_ir.specs.declared.instruction.HInst.{HInst}
+use Rattle.std.proofs.Common.{◌∙◌, ◌-◌, length, ap, sym, arith}
 use Rattle.upset_model.specs.Guards.{guard_in}
 use Rattle.upset_model.proofs.GuardLaws.{last-guard}
 use Rattle.upset_model.proofs.edges.guard_of.Goals as goal

@@ -1,7 +1,4 @@
-use Rattle.std.proofs.Common.{◌≡◌, ◌∙◌, List, Option, ap, sym}
-use Rattle.hard_ir.specs.declared.instruction.HInst.{HInst}
-use Rattle.upset_model.specs.declared.edges.Guard.{Guard}
-use Rattle.upset_model.specs.Windows.{last_guarded}
+use Rattle.std.proofs.Common.{◌∙◌, ap, sym}
 use Rattle.upset_model.specs.Guards.{guard_of, checked_by}
 use Rattle.upset_model.proofs.GuardLaws.{guarded-last}
 use Rattle.upset_model.proofs.labels.LabelIndex.is_edge_checked.Goals as goal

@@ -1,4 +1,4 @@
-use Rattle.std.proofs.Common.{ℕ, ◌≡◌, ◌∙◌, ◌-◌, ◌<◌, ◌≤◌, suc, List, Option, length, subst, ap, sym, arith, get_or}
+use Rattle.std.proofs.Common.{ℕ, ◌≡◌, ◌∙◌, ◌-◌, ◌<◌, suc, List, length, subst, ap, sym, arith}
 use Rattle.inst_meaning.specs.Registers.{put}
 use Rattle.hard_ir.specs.declared.instruction.HBlock.{HBlock}
 use Rattle.upset_model.specs.Guards.{IsIndexFrom}

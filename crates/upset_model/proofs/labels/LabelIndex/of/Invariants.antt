@@ -1,4 +1,4 @@
-use Rattle.std.proofs.Common.{◌≡◌, ◌≤◌, length}
+use Rattle.std.proofs.Common.{◌≤◌, length}
 use Rattle.upset_model.specs.Guards.{IsIndexFrom}
 use Rattle.upset_model.proofs.labels.LabelIndex.of.Given as goal
 

@@ -1,8 +1,7 @@
-use Rattle.std.proofs.Common.{ℕ, ◌≡◌, ◌∙◌, ◌++◌, ◌∷◌, [], ◌≤◌, List, length, map, take, ap, sym, subst, arith}
+use Rattle.std.proofs.Common.{◌∙◌, ◌++◌, ◌∷◌, [], ◌≤◌, List, length, map, take, ap, sym, subst, arith}
 use Rattle.std.proofs.lemmas.List.{take_all}
-use Rattle.hard_ir.specs.declared.instruction.HBlock.{HBlock}
 use Rattle.upset_model.specs.declared.blocks.Interval.{Interval}
-use Rattle.upset_model.specs.Table.{func_intervals, table_of, Table, HoldsWindows}
+use Rattle.upset_model.specs.Table.{func_intervals, Table, HoldsWindows}
 use Rattle.upset_model.proofs.TableLaws.{taken-more, table-holds}
 use Rattle.upset_model.proofs.table.WindowTable.of.Goals as goal
 
