@@ -1,8 +1,8 @@
 -- Blocks that end alike have the same edges, guarded branches and phis of edges: those of a hardened function and of its source do.
 use Rattle.std.proofs.Common.{ℕ, zero, suc, ◌≡◌, ◌∙◌, ◌+◌, ◌-◌, ◌||◌, ◌&&◌, Bool, true, false, not, List, [], ◌∷◌, ◌++◌, map, length, Option, Some, None, slice_get, refl, ap, sym as flip, subst, arith, append-nil}
 use Rattle.std.specs.Prelude.{nat_eq, if◌then◌else◌}
-use Rattle.std.specs.List.{flat_map, filter, list_any}
-use Rattle.std.specs.Option.{option_map, option_map_or, is_some}
+use Rattle.std.specs.List.{flat_map, filter, filter_map, list_any}
+use Rattle.std.specs.Option.{option_map, option_map_or, option_or, is_some}
 use Rattle.std.proofs.lemmas.List.{map-append, length-map}
 use Rattle.std.proofs.lemmas.Option.{slice_get-map}
 use Rattle.ir_core.proofs.Lengths.{both_true}
@@ -16,7 +16,7 @@ use Rattle.ir_core.specs.declared.instruction.Inst.TheVariants as insts
 use Rattle.ir_core.specs.declared.instruction.Block.{Block}
 use Rattle.ir_core.specs.Module.{ModuleParts, FuncParts}
 use Rattle.ir_core.specs.Instructions.{is_phi}
-use Rattle.ir_flow.specs.Edges.{labels_of, last_labels, edges_of, is_loop_head}
+use Rattle.ir_flow.specs.Edges.{labels_of, last_labels, numbered_from, number_of, edge_to, edges_from, edges_of, is_loop_head}
 use Rattle.ir_check.specs.Blocks.{is_terminator, ends_well}
 use Rattle.ir_numbering.specs.Renaming.{renamed_loc, renamed_inst, renamed_block}
 use Rattle.hard_ir.specs.declared.instruction.HInst.{HInst}
@@ -38,10 +38,10 @@ use Rattle.edge_laws.proofs.Staying.{inside}
 abbrev pub last : {A : Type 0} → List A → Option A
 last xs = slice_get xs (length xs - 1)
 
-last-cons : {A : Type 0} (x y : A) (xs : List A) → last (x ∷ y ∷ xs) ≡ last (y ∷ xs)
+pub last-cons : {A : Type 0} (x y : A) (xs : List A) → last (x ∷ y ∷ xs) ≡ last (y ∷ xs)
 last-cons x y xs = let place : length (x ∷ y ∷ xs) - 1 ≡ suc (length (y ∷ xs) - 1) = omega arith in ap (slice_get (x ∷ y ∷ xs)) place
 
-last-behind : {A : Type 0} (xs ys : List A) (y : A) → last ys ≡ Some y → last (xs ++ ys) ≡ Some y
+pub last-behind : {A : Type 0} (xs ys : List A) (y : A) → last ys ≡ Some y → last (xs ++ ys) ≡ Some y
 last-behind [] ys y e = e
 last-behind (x ∷ []) [] y e = cc
 last-behind (x ∷ []) (z ∷ ys) y e = last-cons x z ys ∙ e
@@ -192,3 +192,29 @@ module _ (loc : ℕ → ℕ) (apart : IsApart loc) where
 
   pub target-same : (at : Loc) (blocks : List Block) → is_edge_target (map (renamed_block (inside loc)) blocks) (renamed_loc (inside loc) at) ≡ is_edge_target blocks at
   target-same at blocks = any-images (renamed_block (inside loc)) (guards at) (guards (renamed_loc (inside loc) at)) (guards-same at) blocks
+
+-- ---- edges of blocks that end alike
+
+pub numbers-alike : (k : ℕ) (xs ys : List Block) (at : Loc) → EndAlike xs ys → numbered_from k xs at ≡ numbered_from k ys at
+numbers-alike k [] [] at alike = refl
+numbers-alike k [] (y ∷ ys) at alike = absurd alike
+numbers-alike k (x ∷ xs) [] at alike = absurd alike
+numbers-alike k (x ∷ xs) (y ∷ ys) at alike =
+    ap (λ (o : Option ℕ). option_or o (if nat_eq x.label.0 at.0 then Some k else None)) (numbers-alike (k + 1) xs ys at alike.1)
+    ∙ ap (λ (e : Loc × Option Inst). option_or (numbered_from (k + 1) ys at) (if nat_eq e.0.0 at.0 then Some k else None)) alike.0
+
+edges-by-labels : (xs ys : List Block) (from : ℕ) (labels : List Loc) → ((at : Loc) → number_of xs at ≡ number_of ys at) → filter_map (edge_to xs from) labels ≡ filter_map (edge_to ys from) labels
+edges-by-labels xs ys from [] same = refl
+edges-by-labels xs ys from (label ∷ labels) same = rw (same label, edges-by-labels xs ys from labels same) refl
+
+edges-from-alike : (all others : List Block) (k : ℕ) (xs ys : List Block) → ((at : Loc) → number_of all at ≡ number_of others at) → EndAlike xs ys → edges_from all k xs ≡ edges_from others k ys
+edges-from-alike all others k [] [] same alike = refl
+edges-from-alike all others k [] (y ∷ ys) same alike = absurd alike
+edges-from-alike all others k (x ∷ xs) [] same alike = absurd alike
+edges-from-alike all others k (x ∷ xs) (y ∷ ys) same alike =
+    ap (λ (e : Loc × Option Inst). filter_map (edge_to all k) (option_map_or labels_of e.1 []) ++ edges_from all (k + 1) xs) alike.0
+    ∙ ap (λ (pairs : List (ℕ × ℕ)). pairs ++ edges_from all (k + 1) xs) (edges-by-labels all others k (last_labels y.insts) same)
+    ∙ ap (λ (rest : List (ℕ × ℕ)). filter_map (edge_to others k) (last_labels y.insts) ++ rest) (edges-from-alike all others (k + 1) xs ys same alike.1)
+
+pub edges-alike : (xs ys : List Block) → EndAlike xs ys → edges_from xs 0 xs ≡ edges_from ys 0 ys
+edges-alike xs ys alike = edges-from-alike xs ys 0 xs ys (λ at. numbers-alike 0 xs ys at alike) alike

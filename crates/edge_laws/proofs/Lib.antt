@@ -6,3 +6,5 @@ pub mod RaisedTicks
 pub mod Anchors
 pub mod Edged
 pub mod EdgedModules
+pub mod WithEdges
+pub mod EdgeRules
