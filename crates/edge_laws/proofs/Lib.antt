@@ -8,3 +8,4 @@ pub mod Edged
 pub mod EdgedModules
 pub mod WithEdges
 pub mod EdgeRules
+pub mod EdgeShapes

@@ -160,8 +160,9 @@ module _ (table : Table) (m : ModuleParts) (keeps : HardLine → Bool) where
       let parts = both_true _ _ (flip (list_all-append keeps (block_lines n hf start (hard_block table f start x)) (blocks_lines n hf (start + 1) (hard_blocks table f (start + 1) blocks))) ∙ all) in
       subst (λ (k : ℕ). list_all keeps (block_lines n hf k (hard_block table f k block)) ≡ true) number (subst (λ (y : Block). list_all keeps (block_lines n hf start (hard_block table f start y)) ≡ true) same parts.0)
   of-blocks n hf f start (suc i) b (x ∷ blocks) block e at all =
+      let number : b ≡ (start + 1) + i = omega (arith, e) in
       let parts = both_true _ _ (flip (list_all-append keeps (block_lines n hf start (hard_block table f start x)) (blocks_lines n hf (start + 1) (hard_blocks table f (start + 1) blocks))) ∙ all) in
-      of-blocks n hf f (start + 1) i b blocks block (omega (arith, e)) at parts.1
+      of-blocks n hf f (start + 1) i b blocks block number at parts.1
 
   of-funcs : (start i n : ℕ) (funcs : List FuncParts) (f : FuncParts) → n ≡ start + i → slice_get funcs i ≡ Some f → list_all keeps (funcs_lines start (map (hard_of table) funcs)) ≡ true
       → list_all keeps (blocks_lines n (hard_of table f) 0 (hard_blocks table f 0 f.blocks)) ≡ true
@@ -173,12 +174,15 @@ module _ (table : Table) (m : ModuleParts) (keeps : HardLine → Bool) where
       subst (λ (k : ℕ). list_all keeps (blocks_lines k (hard_of table f) 0 (hard_blocks table f 0 f.blocks)) ≡ true) number
       (subst (λ (y : FuncParts). list_all keeps (blocks_lines start (hard_of table y) 0 (hard_blocks table y 0 y.blocks)) ≡ true) same parts.0)
   of-funcs start (suc i) n (x ∷ funcs) f e at all =
+      let number : n ≡ (start + 1) + i = omega (arith, e) in
       let parts = both_true _ _ (flip (list_all-append keeps (blocks_lines start (hard_of table x) 0 (hard_blocks table x 0 x.blocks)) (funcs_lines (start + 1) (map (hard_of table) funcs))) ∙ (both_true _ _ all).1) in
-      of-funcs (start + 1) i n funcs f (omega (arith, e)) at parts.1
+      of-funcs (start + 1) i n funcs f number at parts.1
 
   pub of-block : AllKeep keeps (hardened_by table m) → (n b : ℕ) (f : FuncParts) (block : Block) → IsBlockOf m n f b block
       → list_all keeps (block_lines n (hard_of table f) b (hard_block table f b block)) ≡ true
   of-block all n b f block at =
+      let first : n ≡ 0 + n = omega arith in
+      let second : b ≡ 0 + b = omega arith in
       let split = both_true _ _ (flip (list_all-append keeps (map OuterLine (outer_lines m)) (funcs_lines 0 (hard_funcs (hardened_by table m)))) ∙ all) in
-      let funcs = of-funcs 0 n n m.funcs f (omega arith) at.0 (flip (ap (λ (funcs : List HardFunc). list_all keeps (funcs_lines 0 funcs)) (hard-funcs table m)) ∙ split.1) in
-      of-blocks n (hard_of table f) f 0 b b f.blocks block (omega arith) at.1 funcs
+      let funcs = of-funcs 0 n n m.funcs f first at.0 (flip (ap (λ (funcs : List HardFunc). list_all keeps (funcs_lines 0 funcs)) (hard-funcs table m)) ∙ split.1) in
+      of-blocks n (hard_of table f) f 0 b b f.blocks block second at.1 funcs
