@@ -9,3 +9,4 @@ pub mod EdgedModules
 pub mod WithEdges
 pub mod EdgeRules
 pub mod EdgeShapes
+pub mod EdgePhis
