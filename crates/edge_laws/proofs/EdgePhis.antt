@@ -31,9 +31,11 @@ use Rattle.hard_ir.specs.declared.instruction.HInst.{HInst}
 use Rattle.hard_ir.specs.declared.instruction.HBlock.{HBlock}
 use Rattle.hard_ir.specs.Image.{Table, phi_image}
 use Rattle.hard_ir.specs.Hardened.{hard_block, hard_blocks, ticked_block, hardened_by}
-use Rattle.hard_ir.specs.Fit.{HardFunc, hard_funcs, plain_inst, plain_block, plain_func, plain_line, AllKeep, forms_keep}
+use Rattle.hard_ir.specs.Fit.{HardFunc, hard_funcs, Fits, plain_inst, plain_block, plain_func, plain_line, AllKeep, forms_keep}
 use Rattle.hard_ir.specs.EdgeChecks.{leads_to, predecessors, edge_arm, edge_phi, edge_phis}
 use Rattle.hard_laws.proofs.Images.{IsTable}
+use Rattle.hard_laws.proofs.Accepted.{sound}
+use Rattle.hard_laws.proofs.Shapes.{block-ends}
 use Rattle.hard_laws.proofs.HardLines.{IsBlockOf, hard_of, hard-funcs, both}
 use Rattle.edge_laws.proofs.Ends.{ending, EndAlike, last, plain-ticked, blocks-end, numbers-alike, edges-alike}
 use Rattle.edge_laws.proofs.WithEdges.{edge_on, edge_blocks, edge_func, edge_funcs, edge_module, edge-funcs, Passes, of-block}
@@ -206,3 +208,157 @@ module _ (m : ModuleParts) (accepted : IsAccepted m) (n : ℕ) (f : FuncParts) (
           let blocks : Some one.1 ≡ Some two.1 = flip one.2 ∙ ap (slice_get f.blocks) place ∙ two.2 in
           let block_same : one.1 ≡ two.1 = cc in
           ap (λ (x : Val × Loc). x.0) (flip one.4) ∙ ap (λ (x : Block). (edge_arm block.label side x).0) block_same ∙ ap (λ (x : Val × Loc). x.0) two.4
+
+-- ---- functions that end alike
+
+alike-back : (xs ys : List Block) → EndAlike xs ys → EndAlike ys xs
+alike-back [] [] alike = tt
+alike-back [] (y ∷ ys) alike = alike
+alike-back (x ∷ xs) [] alike = alike
+alike-back (x ∷ xs) (y ∷ ys) alike = (flip alike.0, alike-back xs ys alike.1)
+
+fitting-alike : (f g : FuncParts) → EndAlike g.blocks f.blocks → (b : ℕ) (arms : List (Val × Loc)) → IsFitting f b arms → IsFitting g b arms
+fitting-alike f g alike b arms fit = record {
+  known = λ place arm at.
+      let found = fit.known place arm at in
+      (found.0, number arm.1 ∙ found.1, subst (λ (pairs : List (ℕ × ℕ)). IsEdge pairs (found.0, b)) (flip pairs) found.2);
+  complete = λ from edge.
+      let arm = fit.complete from (subst (λ (pairs : List (ℕ × ℕ)). IsEdge pairs (from, b)) pairs edge) in
+      record { place = arm.place; arm = arm.arm; stands = arm.stands; of_block = number arm.arm.1 ∙ arm.of_block };
+  agree = λ i j x y at there same. fit.agree i j x y at there (flip (number x.1) ∙ same ∙ number y.1);
+}
+  where
+    number : (at : Loc) → number_of g.blocks at ≡ number_of f.blocks at
+    number at = numbers-alike 0 g.blocks f.blocks at alike
+
+    pairs : (edges_of g).pairs ≡ (edges_of f).pairs
+    pairs = edges-alike g.blocks f.blocks alike
+
+-- ---- the phis of a body, among new ones
+
+all-join : (f : FuncParts) (xs ys : List PhiAt) → AllFitting f xs → AllFitting f ys → AllFitting f (xs ++ ys)
+all-join f [] ys p q = q
+all-join f (x ∷ xs) ys p q = (p.0, all-join f xs ys p.1 q)
+
+all-front : (f : FuncParts) (xs ys : List PhiAt) → AllFitting f (xs ++ ys) → AllFitting f xs
+all-front f [] ys p = tt
+all-front f (x ∷ xs) ys p = (p.0, all-front f xs ys p.1)
+
+all-back : (f : FuncParts) (xs ys : List PhiAt) → AllFitting f (xs ++ ys) → AllFitting f ys
+all-back f [] ys p = p
+all-back f (x ∷ xs) ys p = all-back f xs ys p.1
+
+module _ (f g : FuncParts) (b : ℕ) (again : (arms : List (Val × Loc)) → IsFitting f b arms → IsFitting g b arms) where
+  one-again : (i j : ℕ) (inst : Inst) → AllFitting f (phi_at b i inst) → AllFitting g (phi_at b j inst)
+  one-again i j (insts.Phi dst ty arms) fit = (again arms fit.0, tt)
+  one-again i j inst fit = tt
+
+  body-again : (i j : ℕ) (body : List Inst) → AllFitting f (phis_of_body b i body) → AllFitting g (phis_of_body b j body)
+  body-again i j [] fit = tt
+  body-again i j (inst ∷ body) fit =
+      all-join g (phi_at b j inst) (phis_of_body b (j + 1) body) (one-again i j inst (all-front f (phi_at b i inst) (phis_of_body b (i + 1) body) fit))
+      (body-again (i + 1) (j + 1) body (all-back f (phi_at b i inst) (phis_of_body b (i + 1) body) fit))
+
+  among-again : (i j : ℕ) (xs ys : List Inst) (name : Loc) (ty : Ty) (first second : List (Val × Loc)) → IsFitting g b first → IsFitting g b second → AllFitting f (phis_of_body b i (xs ++ ys))
+      → AllFitting g (phis_of_body b j ((xs ++ insts.Phi name ty first ∷ insts.Phi name ty second ∷ []) ++ insts.Fence ∷ ys))
+  among-again i j [] ys name ty first second p q fit = (p, (q, body-again i (j + 1 + 1 + 1) ys fit))
+  among-again i j (x ∷ xs) ys name ty first second p q fit =
+      all-join g (phi_at b j x) (phis_of_body b (j + 1) ((xs ++ insts.Phi name ty first ∷ insts.Phi name ty second ∷ []) ++ insts.Fence ∷ ys))
+      (one-again i j x (all-front f (phi_at b i x) (phis_of_body b (i + 1) (xs ++ ys)) fit))
+      (among-again (i + 1) (j + 1) xs ys name ty first second p q (all-back f (phi_at b i x) (phis_of_body b (i + 1) (xs ++ ys)) fit))
+
+-- ---- a whole module
+
+plain-again : (blocks : List HBlock) → map plain_block (map ticked_block blocks) ≡ map plain_block blocks
+plain-again [] = refl
+plain-again (block ∷ blocks) =
+    ap (λ (items : List Inst). let made : Block = record { label = block.label; insts = map (λ (phi : Side × Inst). phi.1) block.phis ++ items } in made ∷ map plain_block (map ticked_block blocks)) (plain-ticked 0 block.list)
+    ∙ ap (λ (rest : List Block). plain_block block ∷ rest) (plain-again blocks)
+
+module _ (table : Table) (is : IsTable table) (ofs : ℕ → ℕ → Option Loc) (m : ModuleParts) (accepted : IsAccepted m) (fits : Fits (hardened_by table m)) where
+  module _ (n : ℕ) (f : FuncParts) (here : slice_get m.funcs n ≡ Some f) where
+    hard-ends : EndAlike (map plain_block (hard_blocks table f 0 f.blocks)) f.blocks
+    hard-ends = subst (λ (blocks : List Block). EndAlike blocks f.blocks) (plain-again (hard_blocks table f 0 f.blocks))
+        (blocks-end table is f 0 f.blocks (λ b block at. block-ends table is m (sound m accepted) n b f block (here, at)))
+
+    hard-well : (b : ℕ) (block : Block) → slice_get f.blocks b ≡ Some block → ends_well (plain_block (hard_block table f b block)).insts ≡ true
+    hard-well b block at =
+        let lines = of-block table m (λ line. terminators_keep (plain_line line)) fits.terminators n b f block (here, at) in
+        (both_true (ends_well (plain_block (hard_block table f b block)).insts) (begins_well (plain_block (hard_block table f b block)).insts) (both_true _ _ lines).0).0
+
+    pub now-ends : EndAlike (map plain_block (edge_blocks table f (ofs n) 0 f.blocks)) f.blocks
+    now-ends = edge-ends table f (ofs n) 0 f.blocks hard-ends (λ k block at. let same : k ≡ 0 + k = omega arith in subst (λ (j : ℕ). ends_well (plain_block (hard_block table f j block)).insts ≡ true) same (hard-well k block at))
+
+    abbrev was : FuncParts
+    was = plain_func (hard_of table f)
+
+    abbrev now : FuncParts
+    now = plain_func (edge_func table (ofs n) f)
+
+    was-now : (b : ℕ) (arms : List (Val × Loc)) → IsFitting was b arms → IsFitting now b arms
+    was-now b arms fit = fitting-alike f now now-ends b arms (fitting-alike was f (alike-back (map plain_block (hard_blocks table f 0 f.blocks)) f.blocks hard-ends) b arms fit)
+
+    phis-alike : (body : List Inst) (name : Loc) (at : Loc) → map (λ (phi : Side × Inst). phi.1) (flat_map phi_image body ++ edge_phis name f.blocks at)
+        ≡ map (λ (phi : Side × Inst). phi.1) (flat_map phi_image body) ++ (edge_phi name f.blocks at M).1 ∷ (edge_phi name f.blocks at S).1 ∷ []
+    phis-alike body name at = map-append (λ (phi : Side × Inst). phi.1) (flat_map phi_image body) (edge_phis name f.blocks at)
+
+    block-fits : (b : ℕ) (block : Block) (o : Option Loc) → slice_get f.blocks b ≡ Some block → AllFitting was (phis_of_body b 0 (plain_block (hard_block table f b block)).insts)
+        → AllFitting now (phis_of_body b 0 (plain_block (edge_on o f.blocks (hard_block table f b block))).insts)
+    block-fits b block None at fit = body-again was now b (was-now b) 0 0 (plain_block (hard_block table f b block)).insts fit
+    block-fits b block (Some name) at fit =
+        let list : List Inst = map plain_inst (hard_block table f b block).list in
+        let own : (side : Side) → IsFitting now b (map (edge_arm block.label side) (predecessors f.blocks block.label)) =
+        λ side. fitting-alike f now now-ends b (map (edge_arm block.label side) (predecessors f.blocks block.label)) (phi-fits m accepted n f here b block side at) in
+        subst (λ (xs : List Inst). AllFitting now (phis_of_body b 0 (xs ++ insts.Fence ∷ list))) (flip (phis-alike block.insts name block.label))
+        (among-again was now b (was-now b) 0 0 (map (λ (phi : Side × Inst). phi.1) (flat_map phi_image block.insts)) list name (types.Int W1)
+        (map (edge_arm block.label M) (predecessors f.blocks block.label)) (map (edge_arm block.label S) (predecessors f.blocks block.label)) (own M) (own S) fit)
+
+    blocks-fit : (b : ℕ) (blocks : List Block) → ((k : ℕ) (block : Block) → slice_get blocks k ≡ Some block → slice_get f.blocks (b + k) ≡ Some block)
+        → AllFitting was (phis_from b (map plain_block (hard_blocks table f b blocks))) → AllFitting now (phis_from b (map plain_block (edge_blocks table f (ofs n) b blocks)))
+    blocks-fit b [] there fit = tt
+    blocks-fit b (block ∷ blocks) there fit =
+        let first : slice_get f.blocks b ≡ Some block = subst (λ (k : ℕ). slice_get f.blocks k ≡ Some block) (omega arith) (there 0 block refl) in
+        let own = phis_of_body b 0 (plain_block (hard_block table f b block)).insts in
+        let rest = phis_from (b + 1) (map plain_block (hard_blocks table f (b + 1) blocks)) in
+        all-join now (phis_of_body b 0 (plain_block (edge_on (ofs n b) f.blocks (hard_block table f b block))).insts) (phis_from (b + 1) (map plain_block (edge_blocks table f (ofs n) (b + 1) blocks)))
+        (block-fits b block (ofs n b) first (all-front was own rest fit))
+        (blocks-fit (b + 1) blocks (λ k x h. subst (λ (j : ℕ). slice_get f.blocks j ≡ Some x) (omega arith) (there (suc k) x h)) (all-back was own rest fit))
+
+    func-fits : PhisFit was → PhisFit now
+    func-fits fit = blocks-fit 0 f.blocks (λ k x h. subst (λ (j : ℕ). slice_get f.blocks j ≡ Some x) (omega arith) h) fit
+
+    enters-same : enters now ≡ enters was
+    enters-same =
+        ap (list_any (λ (edge : ℕ × ℕ). edge.1 == 0)) (edges-alike now.blocks f.blocks now-ends ∙ flip (edges-alike was.blocks f.blocks hard-ends))
+
+  was-at : (funcs : List FuncParts) (k : ℕ) (f : FuncParts) → slice_get funcs k ≡ Some f → slice_get (map plain_func (map (hard_of table) funcs)) k ≡ Some (plain_func (hard_of table f))
+  was-at [] k f at = cc
+  was-at (x ∷ funcs) zero f at = let same : x ≡ f = cc in ap (λ (y : FuncParts). Some (plain_func (hard_of table y))) same
+  was-at (x ∷ funcs) (suc k) f at = was-at funcs k f at
+
+  now-at : (start k n : ℕ) (funcs : List FuncParts) (g : FuncParts) → n ≡ start + k → slice_get (map plain_func (edge_funcs table ofs start funcs)) k ≡ Some g
+      → (f : FuncParts) × (slice_get funcs k ≡ Some f) × (plain_func (edge_func table (ofs n) f) ≡ g)
+  now-at start k n [] g e at = cc
+  now-at start zero n (x ∷ funcs) g e at =
+      let number : start ≡ n = omega (arith, e) in
+      (x, refl, ap (λ (j : ℕ). plain_func (edge_func table (ofs j) x)) (flip number) ∙ (let same : plain_func (edge_func table (ofs start) x) ≡ g = cc in same))
+  now-at start (suc k) n (x ∷ funcs) g e at = now-at (start + 1) k n funcs g (omega (arith, e)) at
+
+  pub phis-pass : OfAll PhisFit (map plain_func (hard_funcs (edge_module table ofs m)))
+  phis-pass = subst (λ (funcs : List HardFunc). OfAll PhisFit (map plain_func funcs)) (flip (edge-funcs table ofs m)) (λ n g at. by_func n g (now-at 0 n n m.funcs g (omega arith) at))
+    where
+      before : OfAll PhisFit (map plain_func (map (hard_of table) m.funcs))
+      before = subst (λ (funcs : List HardFunc). OfAll PhisFit (map plain_func funcs)) (hard-funcs table m) fits.phis
+
+      by_func : (n : ℕ) (g : FuncParts) → (f : FuncParts) × (slice_get m.funcs n ≡ Some f) × (plain_func (edge_func table (ofs n) f) ≡ g) → PhisFit g
+      by_func n g (f, at, same) = subst PhisFit same (func-fits n f at (before n (plain_func (hard_of table f)) (was-at m.funcs n f at)))
+
+  pub entries-pass : Passes table ofs m (λ line. entries_keep (plain_line line)) (λ line. entries_keep (plain_line line))
+  entries-pass = record {
+    outer = λ line e. e;
+    block = λ n b f block at e. ap (λ (c : Bool). not (b == 0 && c)) (enters-same n f at.0) ∙ e;
+    phi = λ n b i j f block phi at e. refl;
+    item = λ n b i j f block item at e. refl;
+    edge_phi = λ n b i f block name side at e. refl;
+    edge_check = λ n b i f block name at e. refl;
+  }
