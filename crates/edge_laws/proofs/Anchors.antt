@@ -103,7 +103,7 @@ named-tally : (n at : ℕ) (locs : List Loc) → tally (same_name (names.Loc n (
 named-tally n at [] = refl
 named-tally n at (loc ∷ locs) = rw (nat-same n, named-tally n at locs) refl
 
-blocks-tally : (n at : ℕ) (f : FuncParts) (b : ℕ) (blocks : List Block)
+pub blocks-tally : (n at : ℕ) (f : FuncParts) (b : ℕ) (blocks : List Block)
     → tally (same_name (names.Loc n (record { 0 = at }))) (flat_map defined_in (blocks_lines n f b blocks)) ≡ tally (is_at at) (flat_map defs blocks)
 blocks-tally n at f b [] = refl
 blocks-tally n at f b (block ∷ blocks) =
@@ -119,7 +119,7 @@ blocks-tally n at f b (block ∷ blocks) =
     omega (arith, joined, here, rest, parts)
 
 -- so many of a part are in the whole
-lines-tally : (k : Named) (xs ys : List Line) → tally (same_name k) (flat_map defined_in (xs ++ ys)) ≡ tally (same_name k) (flat_map defined_in xs) + tally (same_name k) (flat_map defined_in ys)
+pub lines-tally : (k : Named) (xs ys : List Line) → tally (same_name k) (flat_map defined_in (xs ++ ys)) ≡ tally (same_name k) (flat_map defined_in xs) + tally (same_name k) (flat_map defined_in ys)
 lines-tally k xs ys = ap (tally (same_name k)) (flat_map-append defined_in xs ys) ∙ tally-append (same_name k) (flat_map defined_in xs) (flat_map defined_in ys)
 
 in-funcs : (k : Named) (start i n : ℕ) (f : FuncParts) (funcs : List FuncParts) → slice_get funcs i ≡ Some f → n ≡ start + i

@@ -10,3 +10,4 @@ pub mod WithEdges
 pub mod EdgeRules
 pub mod EdgeShapes
 pub mod EdgePhis
+pub mod EdgeDefinitions
