@@ -138,6 +138,35 @@ in-funcs k start (suc i) n f (g ∷ funcs) at e =
     let rest = in-funcs k (start + 1) i n f funcs at (omega (arith, e)) in
     omega (arith, parts, rest)
 
+params-tally : (n at : ℕ) (params : List (Ty × Loc)) → tally (same_name (names.Loc n (record { 0 = at }))) (map (λ (param : Ty × Loc). names.Loc n param.1) params) ≡ tally (is_at at) (map (λ (param : Ty × Loc). param.1) params)
+params-tally n at [] = refl
+params-tally n at (param ∷ params) = rw (nat-same n, params-tally n at params) refl
+
+-- parameters and blocks
+in-heads : (k : Named) (start i n : ℕ) (f : FuncParts) (funcs : List FuncParts) → slice_get funcs i ≡ Some f → n ≡ start + i
+    → tally (same_name k) (map (λ (param : Ty × Loc). names.Loc n param.1) f.params) + tally (same_name k) (flat_map defined_in (blocks_lines n f 0 f.blocks)) ≤ tally (same_name k) (flat_map defined_in (funcs_lines start funcs))
+in-heads k start i n f [] at e = cc
+in-heads k start zero n f (g ∷ funcs) at e =
+    let same : g ≡ f = cc in
+    let number : start ≡ n = omega (arith, e) in
+    let parts = lines-tally k (func_lines start g) (funcs_lines (start + 1) funcs) in
+    let own = lines-tally k (HeadLine start g ∷ []) (blocks_lines start g 0 g.blocks) in
+    let here : tally (same_name k) (flat_map defined_in (blocks_lines start g 0 g.blocks)) ≡ tally (same_name k) (flat_map defined_in (blocks_lines n f 0 f.blocks)) =
+    ap (λ (x : ℕ). tally (same_name k) (flat_map defined_in (blocks_lines x g 0 g.blocks))) number ∙ ap (λ (x : FuncParts). tally (same_name k) (flat_map defined_in (blocks_lines n x 0 x.blocks))) same in
+    let params : tally (same_name k) (map (λ (param : Ty × Loc). names.Loc start param.1) g.params) ≡ tally (same_name k) (map (λ (param : Ty × Loc). names.Loc n param.1) f.params) =
+    ap (λ (x : ℕ). tally (same_name k) (map (λ (param : Ty × Loc). names.Loc x param.1) g.params)) number ∙ ap (λ (x : FuncParts). tally (same_name k) (map (λ (param : Ty × Loc). names.Loc n param.1) x.params)) same in
+    let head = tally-append (same_name k) (map (λ (param : Ty × Loc). names.Loc start param.1) g.params) [] in
+    let more = by_test (same_name k (names.Sym g.sym)) (tally (same_name k) (map (λ (param : Ty × Loc). names.Loc start param.1) g.params ++ [])) in
+    omega (arith, parts, own, here, params, head, more)
+  where
+    by_test : (b : Bool) (x : ℕ) → x ≤ counted b x
+    by_test true x = omega arith
+    by_test false x = omega arith
+in-heads k start (suc i) n f (g ∷ funcs) at e =
+    let parts = lines-tally k (func_lines start g) (funcs_lines (start + 1) funcs) in
+    let rest = in-heads k (start + 1) i n f funcs at (omega (arith, e)) in
+    omega (arith, parts, rest)
+
 module _ (m : ModuleParts) (sound : Sound m) (n : ℕ) (f : FuncParts) (here : slice_get m.funcs n ≡ Some f) where
   few-defs : (at : ℕ) → tally (is_at at) (flat_map defs f.blocks) ≤ 1
   few-defs at =
@@ -149,6 +178,20 @@ module _ (m : ModuleParts) (sound : Sound m) (n : ℕ) (f : FuncParts) (here : s
       let own = in-funcs k 0 n n f m.funcs here (omega arith) in
       let counts = blocks-tally n at f 0 f.blocks in
       omega (arith, whole, parts, own, counts)
+
+  -- parameters too
+  pub few-all-defs : (at : ℕ) → tally (is_at at) (map (λ (param : Ty × Loc). param.1) f.params ++ flat_map defs f.blocks) ≤ 1
+  few-all-defs at =
+      let k : Named = names.Loc n (record { 0 = at }) in
+      let whole : tally (same_name k) (flat_map defined_in (lines_of m)) ≤ 1 = subst (λ (xs : List Named). tally (same_name k) xs ≤ 1) (source-names m) (defined-once k (definitions m) sound.distinct) in
+      let parts : tally (same_name k) (flat_map defined_in (lines_of m)) ≡ tally (same_name k) (flat_map defined_in (outer_lines m)) + tally (same_name k) (flat_map defined_in (funcs_lines 0 m.funcs)) =
+      ap (λ (xs : List Line). tally (same_name k) (flat_map defined_in xs)) (flip (append_assoc (map TypeLine m.types ++ map GlobalLine m.globals) (map DeclareLine m.declares) (funcs_lines 0 m.funcs)))
+      ∙ lines-tally k (outer_lines m) (funcs_lines 0 m.funcs) in
+      let own = in-heads k 0 n n f m.funcs here (omega arith) in
+      let blocks = blocks-tally n at f 0 f.blocks in
+      let params = params-tally n at f.params in
+      let both = tally-append (is_at at) (map (λ (param : Ty × Loc). param.1) f.params) (flat_map defs f.blocks) in
+      omega (arith, whole, parts, own, blocks, params, both)
 
   -- blocks of one anchor are one
   pub anchor-apart : (table : Table) (i j : ℕ) (a b : Block) → slice_get f.blocks i ≡ Some a → slice_get f.blocks j ≡ Some b

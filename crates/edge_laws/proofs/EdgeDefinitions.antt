@@ -203,7 +203,7 @@ new-known table ofs m n b f block name side at named =
 
 -- ---- a name that no function has is nowhere defined
 
-none-at : (at : ℕ) (locs : List Loc) → list_any (λ (name : Loc). nat_eq name.0 at) locs ≡ false → tally (is_at at) locs ≡ 0
+pub none-at : (at : ℕ) (locs : List Loc) → list_any (λ (name : Loc). nat_eq name.0 at) locs ≡ false → tally (is_at at) locs ≡ 0
 none-at at [] e = refl
 none-at at (loc ∷ locs) e = by_test (nat_eq loc.0 at) refl e (none-at at locs)
   where
@@ -225,7 +225,7 @@ results-within at (inst ∷ body) =
     by_option None = refl
     by_option (Some reg) = refl
 
-defs-within : (at : ℕ) (blocks : List Block) → tally (is_at at) (flat_map defs blocks) ≤ tally (is_at at) (flat_map names_in blocks)
+pub defs-within : (at : ℕ) (blocks : List Block) → tally (is_at at) (flat_map defs blocks) ≤ tally (is_at at) (flat_map names_in blocks)
 defs-within at [] = omega arith
 defs-within at (block ∷ blocks) =
     let rest = defs-within at blocks in

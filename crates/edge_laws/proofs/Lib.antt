@@ -11,3 +11,4 @@ pub mod EdgeRules
 pub mod EdgeShapes
 pub mod EdgePhis
 pub mod EdgeDefinitions
+pub mod EdgeMeanings
