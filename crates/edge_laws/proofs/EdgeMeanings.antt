@@ -182,7 +182,7 @@ module _ (table : Table) (f : FuncParts) (of : ℕ → Option Loc) (at : Loc) wh
   is_new b (block ∷ blocks) = is_new_at (of b) || is_new (b + 1) blocks
 
   -- the entries of a block
-  on-entries : (name : Loc) (block : HBlock)
+  pub on-entries : (name : Loc) (block : HBlock)
       → meanings_in (edge_on (Some name) f.blocks block) ≡ ((block.label, Label) ∷ filter_map meaning_of_phi block.phis) ++ (name, Register (types.Int W1)) ∷ (name, Register (types.Int W1)) ∷ filter_map meaning_in block.list
   on-entries name block =
       ap (λ (xs : List Entry). (block.label, Label) ∷ xs ++ filter_map meaning_in block.list) (filter_map-append meaning_of_phi block.phis (edge_phis name f.blocks block.label))

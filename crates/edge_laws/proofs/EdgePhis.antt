@@ -46,7 +46,7 @@ some-same x y e = cc
 
 -- ---- what is left by a test
 
-of-filter : {A : Type 0} (p : A → Bool) (x : A) (xs : List A) → IsIn x (filter p xs) → IsIn x xs × (p x ≡ true)
+pub of-filter : {A : Type 0} (p : A → Bool) (x : A) (xs : List A) → IsIn x (filter p xs) → IsIn x xs × (p x ≡ true)
 of-filter p x [] (k, at) = cc
 of-filter {A} p x (y ∷ xs) h = by_test (p y) refl h (λ k. of-filter p x xs k)
   where

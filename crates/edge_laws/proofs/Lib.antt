@@ -12,3 +12,4 @@ pub mod EdgeShapes
 pub mod EdgePhis
 pub mod EdgeDefinitions
 pub mod EdgeMeanings
+pub mod EdgeFits
