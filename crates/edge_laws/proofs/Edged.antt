@@ -92,6 +92,26 @@ renamed-at r [] b made at = cc
 renamed-at r (x ∷ blocks) zero made at = (x, refl, cc)
 renamed-at r (x ∷ blocks) (suc b) made at = renamed-at r blocks b made at
 
+pub edged-count : (m : ModuleParts) (chosen : ℕ → Bool) (f : FuncParts) → length (EdgeChecks.edged_func chosen (hard_of m f)).1 ≡ length (renumbered m chosen f).blocks
+edged-count m chosen f =
+    let hf = hard_of m f in
+    let marks = EdgeChecks.marks_of chosen hf in
+    edged-length chosen hf marks (map plain_block (map (EdgeChecks.renamed_hard_block (EdgeChecks.raising marks)) hf.1)) 0 hf.1 ∙ hard-length m f 0 f.blocks ∙ flip (length-map f.blocks (renamed_block (EdgeChecks.raising marks)))
+
+-- ---- names
+
+abbrev pub name_if : ModuleParts → (ℕ → Bool) → FuncParts → Bool → HBlock → Option Loc
+name_if m chosen f true block = Some (EdgeChecks.name_for (EdgeChecks.marks_of chosen (hard_of m f)) block)
+name_if m chosen f false block = None
+
+abbrev pub name_by : ModuleParts → (ℕ → Bool) → FuncParts → ℕ → Option HBlock → Option Loc
+name_by m chosen f b None = None
+name_by m chosen f b (Some block) = name_if m chosen f (EdgeChecks.is_edged chosen (EdgeChecks.plain_blocks (hard_of m f)) b block) block
+
+-- the name of a block that checks its edges
+abbrev pub name_at : ModuleParts → (ℕ → Bool) → FuncParts → ℕ → Option Loc
+name_at m chosen f b = name_by m chosen f b (slice_get (hard_of m f).1 b)
+
 -- ---- one function
 
 module _ (m : ModuleParts) (chosen : ℕ → Bool) (sound : Sound m) (n : ℕ) (f : FuncParts) (here : slice_get m.funcs n ≡ Some f) where
@@ -122,23 +142,6 @@ module _ (m : ModuleParts) (chosen : ℕ → Bool) (sound : Sound m) (n : ℕ) (
       let own = renamed-at r f.blocks b made at in
       subst (λ (x : Block). ends_well x.insts ≡ true) own.2 (ends-same r apart own.0.insts ∙ well b own.0 own.1)
 
-  -- the block with a number checks its edges
-  abbrev edged_at : Option HBlock → ℕ → Bool
-  edged_at None b = false
-  edged_at (Some block) b = EdgeChecks.is_edged chosen (EdgeChecks.plain_blocks hf) b block
-
-  abbrev name_if : Bool → HBlock → Option Loc
-  name_if true block = Some (EdgeChecks.name_for marks block)
-  name_if false block = None
-
-  abbrev name_by : ℕ → Option HBlock → Option Loc
-  name_by b None = None
-  name_by b (Some block) = name_if (EdgeChecks.is_edged chosen (EdgeChecks.plain_blocks hf) b block) block
-
-  -- its name
-  abbrev pub name_at : ℕ → Option Loc
-  name_at b = name_by b (slice_get hf.1 b)
-
   -- what is known of a block with a name
   pub record Named (b : ℕ) (name : Loc) : Type 0 where
     pub old : HBlock
@@ -149,16 +152,16 @@ module _ (m : ModuleParts) (chosen : ℕ → Bool) (sound : Sound m) (n : ℕ) (
     pub source : slice_get f.blocks b ≡ Some block
     pub made : ticked_block (hard_block (split_table m) f b block) ≡ old
 
-  pub named : (b : ℕ) (name : Loc) → name_at b ≡ Some name → Named b name
+  pub named : (b : ℕ) (name : Loc) → name_at m chosen f b ≡ Some name → Named b name
   named b name e = by_block (slice_get hf.1 b) refl e
     where
-      by_test : (old : HBlock) → slice_get hf.1 b ≡ Some old → (c : Bool) → EdgeChecks.is_edged chosen (EdgeChecks.plain_blocks hf) b old ≡ c → name_if c old ≡ Some name → Named b name
+      by_test : (old : HBlock) → slice_get hf.1 b ≡ Some old → (c : Bool) → EdgeChecks.is_edged chosen (EdgeChecks.plain_blocks hf) b old ≡ c → name_if m chosen f c old ≡ Some name → Named b name
       by_test old at true edged e =
           let own = hard-at m f 0 b b f.blocks old (omega arith) at in
           record { old = old; at = at; edged = edged; is = cc; block = own.0; source = own.1; made = own.2 }
       by_test old at false edged e = cc
 
-      by_block : (o : Option HBlock) → slice_get hf.1 b ≡ o → name_by b o ≡ Some name → Named b name
+      by_block : (o : Option HBlock) → slice_get hf.1 b ≡ o → name_by m chosen f b o ≡ Some name → Named b name
       by_block None at e = cc
       by_block (Some old) at e = by_test old at (EdgeChecks.is_edged chosen (EdgeChecks.plain_blocks hf) b old) refl e
 
@@ -222,7 +225,7 @@ module _ (m : ModuleParts) (chosen : ℕ → Bool) (sound : Sound m) (n : ℕ) (
       ap (list_any (λ (x : Loc). nat_eq x.0 name.0)) names-moved
       ∙ none-raised name.0 (λ k e. new-apart marks anchor k (marked b name own) (number ∙ e)) (names_of f)
 
-  one-block : (i j : ℕ) (name : Loc) → Named i name → Named j name → i ≡ j
+  pub one-block : (i j : ℕ) (name : Loc) → Named i name → Named j name → i ≡ j
   one-block i j name a b =
       let both : suc (loc (EdgeChecks.anchor_of a.old)) ≡ suc (loc (EdgeChecks.anchor_of b.old)) = ap (λ (x : Loc). x.0) (a.is ∙ flip b.is) in
       let same : EdgeChecks.anchor_of a.old ≡ EdgeChecks.anchor_of b.old = apart _ _ (omega (arith, both)) in
@@ -246,7 +249,7 @@ module _ (m : ModuleParts) (chosen : ℕ → Bool) (sound : Sound m) (n : ℕ) (
 
   pub edge-names : EdgeNames g
   edge-names = record {
-    of = name_at;
+    of = name_at m chosen f;
     target = λ b block name at e. leads-there b block name at (named b name e);
     new = λ b name e. new-name b name (named b name e);
     single = λ i j name e h. one-block i j name (named i name e) (named j name h);
@@ -284,7 +287,7 @@ module _ (m : ModuleParts) (chosen : ℕ → Bool) (sound : Sound m) (n : ℕ) (
     pub record Made (b : ℕ) (hard : HBlock) : Type 0 where
       pub block : Block
       pub source : slice_get g.blocks b ≡ Some block
-      pub is : with_name (name_at b) (ticked_block (hard_block (split_table other) g b block)) ≡ hard
+      pub is : with_name (name_at m chosen f b) (ticked_block (hard_block (split_table other) g b block)) ≡ hard
       pub old : HBlock
       pub at : slice_get hf.1 b ≡ Some old
       pub moved : EdgeChecks.renamed_hard_block r old ≡ ticked_block (hard_block (split_table other) g b block)
@@ -305,14 +308,14 @@ module _ (m : ModuleParts) (chosen : ℕ → Bool) (sound : Sound m) (n : ℕ) (
       where
         by_test : (old : HBlock) → slice_get hf.1 b ≡ Some old
             → EdgeChecks.edged_block (EdgeChecks.is_edged chosen (EdgeChecks.plain_blocks hf) b old) marks (map plain_block (map (EdgeChecks.renamed_hard_block r) hf.1)) old ≡ hard
-            → {new : HBlock} → EdgeChecks.renamed_hard_block r old ≡ new → (c : Bool) → EdgeChecks.is_edged chosen (EdgeChecks.plain_blocks hf) b old ≡ c → with_name (name_at b) new ≡ hard
+            → {new : HBlock} → EdgeChecks.renamed_hard_block r old ≡ new → (c : Bool) → EdgeChecks.is_edged chosen (EdgeChecks.plain_blocks hf) b old ≡ c → with_name (name_at m chosen f b) new ≡ hard
         by_test old there is {new} moved true e =
-            let name : name_at b ≡ Some (EdgeChecks.name_for marks old) = ap (name_by b) there ∙ ap (λ (c : Bool). name_if c old) e in
+            let name : name_at m chosen f b ≡ Some (EdgeChecks.name_for marks old) = ap (name_by m chosen f b) there ∙ ap (λ (c : Bool). name_if m chosen f c old) e in
             ap (λ (o : Option Loc). with_name o new) name ∙ ap (EdgeChecks.edge_block (EdgeChecks.name_for marks old) g.blocks) (flip moved)
             ∙ flip (edge-block-by (EdgeChecks.name_for marks old) (EdgeChecks.renamed_hard_block r old))
             ∙ ap (λ (c : Bool). EdgeChecks.edged_block c marks (map plain_block (map (EdgeChecks.renamed_hard_block r) hf.1)) old) (flip e) ∙ is
         by_test old there is {new} moved false e =
-            let name : name_at b ≡ None = ap (name_by b) there ∙ ap (λ (c : Bool). name_if c old) e in
+            let name : name_at m chosen f b ≡ None = ap (name_by m chosen f b) there ∙ ap (λ (c : Bool). name_if m chosen f c old) e in
             ap (λ (o : Option Loc). with_name o new) name ∙ flip moved
             ∙ ap (λ (c : Bool). EdgeChecks.edged_block c marks (map plain_block (map (EdgeChecks.renamed_hard_block r) hf.1)) old) (flip e) ∙ is
 
@@ -343,19 +346,19 @@ module _ (m : ModuleParts) (chosen : ℕ → Bool) (sound : Sound m) (n : ℕ) (
         keeps = raised-code other g b block small;
       }
 
-      block-image : (b : ℕ) (block : Block) (hard : HBlock) → slice_get g.blocks b ≡ Some block → slice_get (EdgeChecks.edged_func chosen hf).1 b ≡ Some hard → IsBlockImage (IsCode other) g b block (name_at b) hard
+      block-image : (b : ℕ) (block : Block) (hard : HBlock) → slice_get g.blocks b ≡ Some block → slice_get (EdgeChecks.edged_func chosen hf).1 b ≡ Some hard → IsBlockImage (IsCode other) g b block (name_at m chosen f b) hard
       block-image b block hard at there =
           let made = made-of b hard there in
           let found : Some made.block ≡ Some block = flip made.source ∙ at in
           let same : made.block ≡ block = cc in
-          subst (IsBlockImage (IsCode other) g b block (name_at b)) made.is
-          (subst (λ (x : Block). IsBlockImage (IsCode other) g b block (name_at b) (with_name (name_at b) (ticked_block (hard_block (split_table other) g b x)))) (flip same)
-          (with-name-image b block (name_at b) (subst (λ (x : Block). length (ticked 0 (hard_block (split_table other) g b x).list) < list_limit) same (short-made b hard made))))
+          subst (IsBlockImage (IsCode other) g b block (name_at m chosen f b)) made.is
+          (subst (λ (x : Block). IsBlockImage (IsCode other) g b block (name_at m chosen f b) (with_name (name_at m chosen f b) (ticked_block (hard_block (split_table other) g b x)))) (flip same)
+          (with-name-image b block (name_at m chosen f b) (subst (λ (x : Block). length (ticked 0 (hard_block (split_table other) g b x).list) < list_limit) same (short-made b hard made))))
 
       pub func-image : IsFuncImage (IsCode other) g (EdgeChecks.edged_func chosen hf).1
       unfolding edge-names
       func-image = record {
         edges = edge-names;
-        count = edged-length chosen hf marks (map plain_block (map (EdgeChecks.renamed_hard_block r) hf.1)) 0 hf.1 ∙ hard-length m f 0 f.blocks ∙ flip (length-map f.blocks (renamed_block r));
+        count = edged-count m chosen f;
         each = block-image;
       }

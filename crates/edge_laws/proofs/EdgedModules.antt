@@ -62,13 +62,13 @@ head-same m chosen f =
     let marks = marks_of chosen (hard_of m f) in
     ap (λ (ty : Ty). let head : FuncParts = record { sym = f.sym; ret = ty; params = map (renamed_param (raising marks)) f.params; blocks = []; names = with_names marks 0 f.names } in head) (flip (ty-stays (raised marks) f.ret))
 
-heads-same : (m : ModuleParts) (chosen : ℕ → ℕ → Bool) (n : ℕ) (funcs : List FuncParts) → map (λ (f : HardFunc). f.0) (edged_funcs chosen n (map (hard_of m) funcs)) ≡ map head_of (renumbered_funcs m chosen n funcs)
+pub heads-same : (m : ModuleParts) (chosen : ℕ → ℕ → Bool) (n : ℕ) (funcs : List FuncParts) → map (λ (f : HardFunc). f.0) (edged_funcs chosen n (map (hard_of m) funcs)) ≡ map head_of (renumbered_funcs m chosen n funcs)
 heads-same m chosen n [] = refl
 heads-same m chosen n (f ∷ funcs) =
     ap (λ (head : FuncParts). head ∷ map (λ (f : HardFunc). f.0) (edged_funcs chosen (suc n) (map (hard_of m) funcs))) (head-same m (chosen n) f)
     ∙ ap (λ (rest : List FuncParts). head_of (renumbered m (chosen n) f) ∷ rest) (heads-same m chosen (suc n) funcs)
 
-count-same : (m : ModuleParts) (chosen : ℕ → ℕ → Bool) (n : ℕ) (funcs : List FuncParts) → length (map (λ (f : HardFunc). f.1) (edged_funcs chosen n (map (hard_of m) funcs))) ≡ length (renumbered_funcs m chosen n funcs)
+pub count-same : (m : ModuleParts) (chosen : ℕ → ℕ → Bool) (n : ℕ) (funcs : List FuncParts) → length (map (λ (f : HardFunc). f.1) (edged_funcs chosen n (map (hard_of m) funcs))) ≡ length (renumbered_funcs m chosen n funcs)
 count-same m chosen n [] = refl
 count-same m chosen n (f ∷ funcs) = ap suc (count-same m chosen (suc n) funcs)
 

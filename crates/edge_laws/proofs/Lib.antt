@@ -13,3 +13,4 @@ pub mod EdgePhis
 pub mod EdgeDefinitions
 pub mod EdgeMeanings
 pub mod EdgeFits
+pub mod EdgedFits

@@ -12,7 +12,7 @@ behind (x ∷ xs) ys k = let next : suc (length xs) + k ≡ suc (length xs + k) 
 
 -- ---- numbers
 
-raised-step : (marks : Marks) (at : ℕ) → raised marks (suc at) ≡ suc (raised marks at) + length (names_after at marks)
+pub raised-step : (marks : Marks) (at : ℕ) → raised marks (suc at) ≡ suc (raised marks at) + length (names_after at marks)
 raised-step [] at = omega arith
 raised-step (mark ∷ marks) at = by_tests (nat_lt mark.0 at) refl (nat_eq mark.0 at) refl (raised-step marks at)
   where
