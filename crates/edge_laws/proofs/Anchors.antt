@@ -1,13 +1,12 @@
 -- After which name a block's new name comes: one that the block defines, so that no two blocks of an accepted module have the same.
-use Rattle.std.proofs.Common.{ℕ, zero, suc, ◌≡◌, ◌∙◌, ◌+◌, ◌≤◌, ◌&&◌, ◌||◌, Bool, true, false, List, [], ◌∷◌, ◌++◌, map, length, Option, Some, None, slice_get, refl, ap, sym as flip, subst, arith, append_assoc}
-use Rattle.std.specs.Prelude.{nat_eq, unwrap_or, if◌then◌else◌}
-use Rattle.std.specs.List.{flat_map, cons_option, list_any}
+use Rattle.std.proofs.Common.{ℕ, zero, suc, ◌≡◌, ◌∙◌, ◌+◌, ◌≤◌, Bool, true, false, List, [], ◌∷◌, ◌++◌, map, length, Option, Some, None, slice_get, refl, ap, sym as flip, subst, arith, append_assoc}
+use Rattle.std.specs.Prelude.{nat_eq, if◌then◌else◌}
+use Rattle.std.specs.List.{flat_map, cons_option}
 use Rattle.std.specs.Option.{option_map}
-use Rattle.std.proofs.lemmas.Bool.{eqb-true, eq-eqb}
+use Rattle.std.proofs.lemmas.Bool.{eq-eqb}
 use Rattle.std.proofs.lemmas.Grind.{flat_map-append}
 use Rattle.ir_core.specs.declared.types.Ty.{Ty}
 use Rattle.ir_core.specs.declared.types.Loc.{Loc}
-use Rattle.ir_core.specs.declared.values.Side.{Side}
 use Rattle.ir_core.specs.declared.instruction.Inst.{Inst}
 use Rattle.ir_core.specs.declared.instruction.Inst.TheVariants as insts
 use Rattle.ir_core.specs.declared.instruction.Block.{Block}
@@ -17,14 +16,14 @@ use Rattle.ir_lines.specs.Lines.{Line, TypeLine, GlobalLine, DeclareLine, HeadLi
 use Rattle.ir_lines.specs.declared.site.Named.{Named}
 use Rattle.ir_lines.specs.declared.site.Named.TheVariants as names
 use Rattle.ir_names.specs.Names.{same_name, defined_in, definitions}
-use Rattle.ir_check.proofs.Members.{IsIn, next-in, in-front, in-back}
+use Rattle.ir_check.proofs.Members.{IsIn, next-in, in-back}
 use Rattle.hard_ir.specs.declared.instruction.HBlock.{HBlock}
 use Rattle.hard_ir.specs.Image.{Table, phi_image}
 use Rattle.hard_ir.specs.Hardened.{hard_block, ticked_block}
 use Rattle.hard_ir.specs.Fit.{HardFunc, outer_lines}
 use Rattle.hard_ir.specs.EdgeChecks.{Marks, anchor_from, anchor_of, mark_of, mark_if, is_edged, plain_blocks, marks_from, names_after}
 use Rattle.hard_laws.proofs.Accepted.{Sound}
-use Rattle.hard_laws.proofs.Tallies.{tally, tally-append, tally-any, counted, counted-more, defined-once, nat-same}
+use Rattle.hard_laws.proofs.Tallies.{tally, tally-append, counted, defined-once, nat-same}
 use Rattle.hard_laws.proofs.Definitions.{source-names}
 
 -- ---- what a block defines

@@ -1,12 +1,11 @@
 -- With names for edges no name is defined again on its side, and what was known is known.
-use Rattle.std.proofs.Common.{ℕ, zero, suc, ◌≡◌, ◌∙◌, ◌+◌, ◌<◌, ◌≤◌, ◌&&◌, ◌||◌, Bool, true, false, List, [], ◌∷◌, ◌++◌, map, length, Option, Some, None, slice_get, refl, ap, sym as flip, subst, arith, append_assoc}
+use Rattle.std.proofs.Common.{ℕ, zero, suc, ◌≡◌, ◌∙◌, ◌+◌, ◌<◌, ◌≤◌, ◌&&◌, ◌||◌, Bool, true, false, List, [], ◌∷◌, ◌++◌, map, length, Option, Some, None, slice_get, refl, ap, sym as flip, subst, arith}
 use Rattle.std.specs.Prelude.{nat_eq, nat_lt}
-use Rattle.std.specs.List.{flat_map, cons_option, list_all, list_any}
+use Rattle.std.specs.List.{flat_map, cons_option, list_any}
 use Rattle.std.specs.Option.{option_map}
-use Rattle.std.proofs.lemmas.Bool.{eqb-true, eq-eqb}
+use Rattle.std.proofs.lemmas.Bool.{eqb-true}
 use Rattle.std.proofs.lemmas.Bool.Decides.{nat_tests}
 use Rattle.std.proofs.lemmas.Grind.{flat_map-append}
-use Rattle.ir_core.proofs.Lengths.{both_true}
 use Rattle.ir_core.specs.declared.types.Ty.{Ty}
 use Rattle.ir_core.specs.declared.types.TypeId.{TypeId}
 use Rattle.ir_core.specs.declared.types.Loc.{Loc}
@@ -26,16 +25,16 @@ use Rattle.ir_names.specs.Names.{same_name, defined_in, definitions}
 use Rattle.hard_ir.specs.declared.instruction.HInst.{HInst}
 use Rattle.hard_ir.specs.declared.instruction.HBlock.{HBlock}
 use Rattle.hard_ir.specs.Image.{Table}
-use Rattle.hard_ir.specs.Hardened.{HardParts, head_of, hard_block, hard_blocks, hardened_by}
+use Rattle.hard_ir.specs.Hardened.{head_of, hard_block, hard_blocks, hardened_by}
 use Rattle.hard_ir.specs.Fit.{HardFunc, hard_funcs, HardLine, OuterLine, phi_lines, inst_lines, block_lines, blocks_lines, funcs_lines, outer_lines, hard_lines, SidedName, same_side, same_sided, on_one_side, label, register, result_on, defined_by, hard_defined_in, hard_definitions, hard_duplicate, is_known}
 use Rattle.hard_ir.specs.Images.{names_in, names_of, is_named}
 use Rattle.hard_ir.specs.Lines.{in_option, in_arm, registers_of}
-use Rattle.hard_ir.specs.EdgeChecks.{edge_phi, edge_phis, edge_check}
+use Rattle.hard_ir.specs.EdgeChecks.{edge_phis}
 use Rattle.hard_laws.proofs.Images.{IsTable}
 use Rattle.hard_laws.proofs.HardLines.{IsBlockOf, hard_of, hard-funcs}
 use Rattle.hard_laws.proofs.Accepted.{Sound}
-use Rattle.hard_laws.proofs.Tallies.{tally, tally-append, tally-any, any-tally, counted, counted-more, nat-same, on_side, defined-once, none-again}
-use Rattle.hard_laws.proofs.Definitions.{source-names, hard-names, in_source, in_hard, all_lacking, module-tally}
+use Rattle.hard_laws.proofs.Tallies.{tally, tally-append, tally-any, any-tally, counted, nat-same, on_side, defined-once, none-again}
+use Rattle.hard_laws.proofs.Definitions.{source-names, hard-names, in_source, in_hard, module-tally}
 use Rattle.edge_laws.proofs.Anchors.{result_list, defs, is_at, blocks-tally, lines-tally}
 use Rattle.edge_laws.proofs.WithEdges.{edge_on, edge_blocks, edge_func, edge_funcs, edge_module, edge-funcs}
 

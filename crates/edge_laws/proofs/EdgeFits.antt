@@ -1,18 +1,15 @@
 -- A hardened module fits with names for its edges where it fits without.
-use Rattle.std.proofs.Common.{ℕ, zero, suc, ◌≡◌, ◌∙◌, ◌+◌, ◌-◌, ◌&&◌, ◌||◌, Bool, true, false, not, List, [], ◌∷◌, ◌++◌, map, length, Option, Some, None, slice_get, refl, ap, sym as flip, subst, arith}
+use Rattle.std.proofs.Common.{ℕ, ◌≡◌, ◌∙◌, ◌+◌, ◌-◌, ◌&&◌, ◌||◌, Bool, true, false, List, [], ◌∷◌, ◌++◌, map, length, Option, Some, None, slice_get, refl, ap, sym as flip, arith}
 use Rattle.std.specs.Prelude.{nat_eq, if◌then◌else◌}
-use Rattle.std.specs.List.{flat_map, filter_map, filter, list_all, list_any}
-use Rattle.std.specs.Option.{option_map, option_map_or, is_some}
-use Rattle.std.proofs.lemmas.Bool.{eqb-true, eq-eqb}
+use Rattle.std.specs.List.{flat_map, filter_map, list_all, list_any}
+use Rattle.std.specs.Option.{option_map_or, is_some}
 use Rattle.std.proofs.lemmas.List.Folds.{list_all-append, list_any-append}
-use Rattle.std.proofs.lemmas.List.Elements.{filter_map-append}
 use Rattle.ir_core.proofs.Lengths.{both_true}
 use Rattle.ir_core.specs.declared.types.Ty.{Ty}
 use Rattle.ir_core.specs.declared.types.Ty as opened
 use Rattle.ir_core.specs.declared.types.Ty.TheOpen.{Ty-F}
-use Rattle.ir_core.specs.declared.types.Ty.TheViews.{out-Ty, out-roll-Ty}
+use Rattle.ir_core.specs.declared.types.Ty.TheViews.{out-roll-Ty}
 use Rattle.ir_core.specs.declared.types.Ty.TheVariants as types
-use Rattle.ir_core.specs.declared.types.TypeId.{TypeId}
 use Rattle.ir_core.specs.declared.types.Loc.{Loc}
 use Rattle.ir_core.specs.declared.types.Width.TheVariants.{W1}
 use Rattle.ir_core.specs.declared.values.Side.{Side}
@@ -24,19 +21,16 @@ use Rattle.ir_core.specs.declared.instruction.Inst.TheVariants as insts
 use Rattle.ir_core.specs.declared.instruction.Block.{Block}
 use Rattle.ir_core.specs.Module.{ModuleParts, FuncParts}
 use Rattle.ir_numbering.specs.declared.places.Place.{Place}
-use Rattle.ir_numbering.specs.declared.places.Place.TheVariants.{Local}
-use Rattle.ir_numbering.specs.Places.{places_of_val, places_of_inst}
+use Rattle.ir_numbering.specs.Places.{places_of_val}
 use Rattle.ir_lines.specs.Lines.{BlockLine, InstLine, lines_of}
-use Rattle.ir_lines.specs.SameTypes.{same_ty}
-use Rattle.ir_lines.specs.declared.site.Named.{Named}
 use Rattle.ir_lines.specs.declared.site.Named.TheVariants as names
-use Rattle.ir_names.specs.Names.{same_name, defined_in, definitions, is_defined, name_at}
+use Rattle.ir_names.specs.Names.{same_name, defined_in, is_defined}
 use Rattle.ir_types.specs.Firsts.{first_of}
 use Rattle.ir_types.specs.Meanings.{Meaning, Label, Register, Pair, meanings, result_of as meaning_of_result, param_meaning}
-use Rattle.ir_types.specs.Types.{inst_fits, operand_fits, names_label, is_label, form_fits, is_int, int_width_step, is_register_of, is_pair_of, typed_operands, typed_arm, labels_in}
+use Rattle.ir_types.specs.Types.{inst_fits, operand_fits, names_label, is_label, form_fits, is_int, int_width_step, is_register_of, typed_operands, typed_arm, labels_in}
 use Rattle.ir_check.specs.Blocks.{ends_well, begins_well, terminators_keep, entries_keep}
 use Rattle.ir_check.specs.Faults.{IsAccepted}
-use Rattle.ir_check.proofs.Members.{IsIn, next-in, in-front, in-back, in-map, in-flat, any-in, of-map, all-in, of-all}
+use Rattle.ir_check.proofs.Members.{IsIn, next-in, in-flat, any-in}
 use Rattle.hard_ir.specs.declared.instruction.HVal.{HVal}
 use Rattle.hard_ir.specs.declared.instruction.HVal.TheVariants as operands
 use Rattle.hard_ir.specs.declared.instruction.HInst.{HInst}
@@ -44,13 +38,13 @@ use Rattle.hard_ir.specs.declared.instruction.HInst.TheVariants.{Cut, Begin, End
 use Rattle.hard_ir.specs.declared.instruction.HBlock.{HBlock}
 use Rattle.hard_ir.specs.Image.{Table, pair_of}
 use Rattle.hard_ir.specs.Hardened.{HardParts, hard_block, hard_blocks, hard_func, hardened_by}
-use Rattle.hard_ir.specs.Fit.{Fits, HardFunc, HInstLine, SidedName, label, register, all_sided, mentions_on, mentions_of, names_in_arm, names_keep, limits_keep, hard_calls_keep, hard_types_keep, forms_keep, plain_line, is_known, meaning_fits, result_fits, has_type, is_pair_at, uses_fit, source_fits, operand_has_type, hard_inst_fits, hard_meanings, meanings_in, meaning_in, meaning_of_phi, same_side}
+use Rattle.hard_ir.specs.Fit.{Fits, HardFunc, label, register, all_sided, mentions_on, mentions_of, names_in_arm, names_keep, limits_keep, hard_calls_keep, hard_types_keep, forms_keep, plain_line, is_known, meaning_fits, result_fits, has_type, is_pair_at, uses_fit, source_fits, operand_has_type, hard_inst_fits, hard_meanings, meanings_in, meaning_in, meaning_of_phi, same_side}
 use Rattle.hard_ir.specs.Images.{is_named}
-use Rattle.hard_ir.specs.EdgeChecks.{Guard, guard_in, guard_at, guard_of, direction, edge_arm, edge_phi, edge_phis, edge_check, predecessors, leads_to}
+use Rattle.hard_ir.specs.EdgeChecks.{Guard, guard_in, guard_at, guard_of, direction, edge_arm, edge_phi, predecessors, leads_to}
 use Rattle.hard_laws.proofs.Images.{IsTable}
 use Rattle.hard_laws.proofs.HardLines.{IsBlockOf, hard_of, both}
 use Rattle.hard_laws.proofs.Accepted.{Sound, sound, block-line, inst-line, of-code}
-use Rattle.hard_laws.proofs.Tallies.{name-same, nat-same}
+use Rattle.hard_laws.proofs.Tallies.{name-same}
 use Rattle.hard_laws.proofs.Definitions.{source-names}
 use Rattle.hard_laws.proofs.Names.{all-other, shadow-known, plain-known}
 use Rattle.hard_laws.proofs.Scalars.{int-places}

@@ -1,47 +1,33 @@
 -- What names stand for with names for edges: what they stood for, and a new one for an `i1`.
-use Rattle.std.proofs.Common.{ℕ, zero, suc, ◌≡◌, ◌∙◌, ◌+◌, ◌≤◌, ◌&&◌, ◌||◌, Bool, true, false, not, List, [], ◌∷◌, ◌++◌, map, find, length, Option, Some, None, slice_get, refl, ap, sym as flip, subst, arith, append_assoc}
+use Rattle.std.proofs.Common.{ℕ, zero, suc, ◌≡◌, ◌∙◌, ◌+◌, ◌≤◌, ◌||◌, Bool, true, false, List, [], ◌∷◌, ◌++◌, map, find, Option, Some, None, slice_get, refl, ap, sym as flip, subst, arith, append_assoc}
 use Rattle.std.specs.Prelude.{nat_eq, if◌then◌else◌}
-use Rattle.std.specs.List.{flat_map, filter_map, cons_option, list_all, list_any}
-use Rattle.std.specs.Option.{option_map, option_or}
+use Rattle.std.specs.List.{flat_map, filter_map, cons_option}
+use Rattle.std.specs.Option.{option_map}
 use Rattle.std.proofs.lemmas.Bool.{eqb-true, eq-eqb}
 use Rattle.std.proofs.lemmas.Bool.Decides.{nat_tests}
 use Rattle.std.proofs.lemmas.List.{map-append}
-use Rattle.std.proofs.lemmas.List.Folds.{list_any-append}
 use Rattle.std.proofs.lemmas.List.Elements.{filter_map-append}
-use Rattle.ir_core.proofs.Lengths.{both_true}
 use Rattle.ir_core.specs.declared.types.Ty.{Ty}
 use Rattle.ir_core.specs.declared.types.Ty.TheVariants as types
 use Rattle.ir_core.specs.declared.types.Loc.{Loc}
 use Rattle.ir_core.specs.declared.types.Width.TheVariants.{W1}
-use Rattle.ir_core.specs.declared.values.Side.{Side}
-use Rattle.ir_core.specs.declared.values.Side.TheVariants.{M, S}
 use Rattle.ir_core.specs.declared.instruction.Inst.{Inst}
 use Rattle.ir_core.specs.declared.instruction.Inst.TheVariants as insts
 use Rattle.ir_core.specs.declared.instruction.Block.{Block}
-use Rattle.ir_core.specs.Instructions.{result_of as named_result}
 use Rattle.ir_core.specs.Module.{ModuleParts, FuncParts}
-use Rattle.ir_lines.specs.Lines.{HeadLine, BlockLine, lines_of, blocks_lines, func_lines, funcs_lines, TypeLine, GlobalLine, DeclareLine}
-use Rattle.ir_lines.specs.declared.site.Named.{Named}
-use Rattle.ir_lines.specs.declared.site.Named.TheVariants as names
-use Rattle.ir_names.specs.Names.{same_name, defined_in, definitions}
 use Rattle.ir_types.specs.Firsts.{first_of}
-use Rattle.ir_types.specs.Meanings.{Meaning, Label, Register, Pair, param_meaning, block_meanings, meanings, result_of}
-use Rattle.ir_check.specs.Blocks.{ends_well, begins_well}
+use Rattle.ir_types.specs.Meanings.{Meaning, Label, Register, param_meaning, block_meanings, meanings, result_of}
 use Rattle.ir_check.proofs.Members.{IsIn, in-back, in-flat}
-use Rattle.hard_ir.specs.declared.instruction.HInst.{HInst}
 use Rattle.hard_ir.specs.declared.instruction.HBlock.{HBlock}
 use Rattle.hard_ir.specs.Image.{Table}
 use Rattle.hard_ir.specs.Hardened.{hard_block, hard_blocks, hard_func}
-use Rattle.hard_ir.specs.Fit.{HardFunc, meaning_in, meaning_of_phi, meanings_in, hard_meanings, outer_lines}
+use Rattle.hard_ir.specs.Fit.{meaning_in, meaning_of_phi, meanings_in, hard_meanings}
 use Rattle.hard_ir.specs.Images.{names_in, names_of, is_named}
-use Rattle.hard_ir.specs.EdgeChecks.{edge_phi, edge_phis, edge_check}
-use Rattle.hard_laws.proofs.Images.{IsTable}
-use Rattle.hard_laws.proofs.HardLines.{IsBlockOf, hard_of}
-use Rattle.hard_laws.proofs.Accepted.{Sound, block-line, of-code}
-use Rattle.hard_laws.proofs.Tallies.{tally, tally-append, counted, defined-once, nat-same}
-use Rattle.hard_laws.proofs.Definitions.{source-names}
-use Rattle.hard_laws.proofs.Meanings.{meaning-same}
-use Rattle.edge_laws.proofs.Anchors.{result_list, defs, is_at, blocks-tally, lines-tally, few-all-defs}
+use Rattle.hard_ir.specs.EdgeChecks.{edge_phis}
+use Rattle.hard_laws.proofs.HardLines.{hard_of}
+use Rattle.hard_laws.proofs.Accepted.{Sound}
+use Rattle.hard_laws.proofs.Tallies.{tally, tally-append, counted, nat-same}
+use Rattle.edge_laws.proofs.Anchors.{result_list, defs, is_at, few-all-defs}
 use Rattle.edge_laws.proofs.EdgeDefinitions.{none-at, defs-within}
 use Rattle.edge_laws.proofs.WithEdges.{edge_on, edge_blocks, edge_func}
 

@@ -1,8 +1,8 @@
 -- Phis fit in blocks with names for their edges, and no edge leads to an entry.
-use Rattle.std.proofs.Common.{ℕ, zero, suc, ◌≡◌, ◌∙◌, ◌+◌, ◌-◌, ◌&&◌, ◌||◌, ◌⊎◌, inl, inr, Bool, true, false, not, List, [], ◌∷◌, ◌++◌, map, length, Option, Some, None, slice_get, refl, ap, sym as flip, subst, arith, append_assoc}
+use Rattle.std.proofs.Common.{ℕ, zero, suc, ◌≡◌, ◌∙◌, ◌+◌, ◌&&◌, ◌||◌, ◌⊎◌, inl, inr, Bool, true, false, not, List, [], ◌∷◌, ◌++◌, map, Option, Some, None, slice_get, refl, ap, sym as flip, subst, arith}
 use Rattle.std.specs.Prelude.{nat_eq, ◌==◌, if◌then◌else◌}
-use Rattle.std.specs.List.{flat_map, filter, filter_map, cons_option, list_all, list_any}
-use Rattle.std.specs.Option.{option_map, option_map_or, option_or}
+use Rattle.std.specs.List.{flat_map, filter, filter_map, cons_option, list_any}
+use Rattle.std.specs.Option.{option_map, option_or}
 use Rattle.std.proofs.lemmas.Bool.{eqb-true, eq-eqb}
 use Rattle.std.proofs.lemmas.List.{map-append}
 use Rattle.ir_core.proofs.Lengths.{both_true}
@@ -16,30 +16,28 @@ use Rattle.ir_core.specs.declared.values.Side.TheVariants.{M, S}
 use Rattle.ir_core.specs.declared.instruction.Inst.{Inst}
 use Rattle.ir_core.specs.declared.instruction.Inst.TheVariants as insts
 use Rattle.ir_core.specs.declared.instruction.Block.{Block}
-use Rattle.ir_core.specs.Instructions.{is_phi}
 use Rattle.ir_core.specs.Module.{ModuleParts, FuncParts}
-use Rattle.ir_flow.specs.Edges.{labels_of, last_labels, numbered_from, number_of, edge_to, edges_of_block, edges_from, edges_of}
+use Rattle.ir_flow.specs.Edges.{last_labels, numbered_from, number_of, edge_to, edges_of_block, edges_from, edges_of}
 use Rattle.ir_flow.specs.Paths.{IsEdge}
-use Rattle.ir_flow.specs.Phis.{HasArm, IsFitting, PhiAt, phi_at, phis_of_body, phis_from, phis_of, AllFitting}
+use Rattle.ir_flow.specs.Phis.{HasArm, IsFitting, PhiAt, phi_at, phis_of_body, phis_from, AllFitting}
 use Rattle.ir_check.specs.Blocks.{ends_well, begins_well, terminators_keep, entries_keep, enters}
 use Rattle.ir_check.specs.Faults.{IsAccepted}
 use Rattle.ir_check.specs.Flows.{OfAll, PhisFit}
-use Rattle.ir_check.proofs.Members.{IsIn, in-front, in-back, of-append, next-in, in-map, of-map, any-in, of-flat}
-use Rattle.src_laws.proofs.Labels.{labelled, label-of, number-same, is-edge}
+use Rattle.ir_check.proofs.Members.{IsIn, in-front, in-back, of-append, next-in, in-map, of-map, any-in}
+use Rattle.src_laws.proofs.Labels.{labelled, label-of, number-same}
 use Rattle.src_laws.proofs.Accepted.{labels-apart}
-use Rattle.hard_ir.specs.declared.instruction.HInst.{HInst}
 use Rattle.hard_ir.specs.declared.instruction.HBlock.{HBlock}
 use Rattle.hard_ir.specs.Image.{Table, phi_image}
 use Rattle.hard_ir.specs.Hardened.{hard_block, hard_blocks, ticked_block, hardened_by}
-use Rattle.hard_ir.specs.Fit.{HardFunc, hard_funcs, Fits, plain_inst, plain_block, plain_func, plain_line, AllKeep, forms_keep}
+use Rattle.hard_ir.specs.Fit.{HardFunc, hard_funcs, Fits, plain_inst, plain_block, plain_func, plain_line}
 use Rattle.hard_ir.specs.EdgeChecks.{leads_to, predecessors, edge_arm, edge_phi, edge_phis}
 use Rattle.hard_laws.proofs.Images.{IsTable}
 use Rattle.hard_laws.proofs.Accepted.{sound}
 use Rattle.hard_laws.proofs.Shapes.{block-ends}
-use Rattle.hard_laws.proofs.HardLines.{IsBlockOf, hard_of, hard-funcs, both}
-use Rattle.edge_laws.proofs.Ends.{ending, EndAlike, last, plain-ticked, blocks-end, numbers-alike, edges-alike}
+use Rattle.hard_laws.proofs.HardLines.{hard_of, hard-funcs}
+use Rattle.edge_laws.proofs.Ends.{EndAlike, plain-ticked, blocks-end, numbers-alike, edges-alike}
 use Rattle.edge_laws.proofs.WithEdges.{edge_on, edge_blocks, edge_func, edge_funcs, edge_module, edge-funcs, Passes, of-block}
-use Rattle.edge_laws.proofs.EdgeShapes.{edge-ends, list-free, image-phis-only}
+use Rattle.edge_laws.proofs.EdgeShapes.{edge-ends}
 
 some-same : {A : Type 0} (x y : A) → Some x ≡ Some y → x ≡ y
 some-same x y e = cc

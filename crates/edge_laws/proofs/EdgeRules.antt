@@ -1,10 +1,7 @@
 -- Rules of lines that a hardened module keeps with names for its edges, where it keeps them without.
-use Rattle.std.proofs.Common.{ℕ, zero, suc, ◌≡◌, ◌∙◌, ◌+◌, ◌-◌, ◌||◌, ◌&&◌, Bool, true, false, not, List, [], ◌∷◌, ◌++◌, map, length, Option, Some, None, slice_get, refl, ap, sym as flip, subst, arith, append_assoc}
-use Rattle.std.specs.Prelude.{nat_eq, ◌==◌, is_none, if◌then◌else◌}
-use Rattle.std.specs.List.{flat_map, list_all, list_any, filter}
-use Rattle.std.proofs.lemmas.List.{map-append}
-use Rattle.std.proofs.lemmas.List.Folds.{list_all-append, list_any-append}
-use Rattle.ir_core.proofs.Lengths.{both_true}
+use Rattle.std.proofs.Common.{ℕ, ◌≡◌, ◌∙◌, Bool, true, false, List, [], ◌∷◌, map, Option, Some, None, refl, ap}
+use Rattle.std.specs.Prelude.{is_none, if◌then◌else◌}
+use Rattle.std.specs.List.{flat_map, list_all}
 use Rattle.ir_core.specs.declared.types.Ty.{Ty}
 use Rattle.ir_core.specs.declared.types.TypeId.{TypeId}
 use Rattle.ir_core.specs.declared.types.Ty.TheVariants as types
@@ -13,31 +10,20 @@ use Rattle.ir_core.specs.declared.types.Width.TheVariants.{W1}
 use Rattle.ir_core.specs.declared.values.Side.{Side}
 use Rattle.ir_core.specs.declared.values.Side.TheVariants.{M, S}
 use Rattle.ir_core.specs.declared.values.Val.{Val}
-use Rattle.ir_core.specs.declared.values.Val.TheVariants as values
-use Rattle.ir_core.specs.declared.instruction.Inst.{Inst}
-use Rattle.ir_core.specs.declared.instruction.Inst.TheVariants as insts
 use Rattle.ir_core.specs.declared.instruction.Block.{Block}
-use Rattle.ir_core.specs.Instructions.{is_phi}
-use Rattle.ir_core.specs.Module.{ModuleParts, FuncParts}
+use Rattle.ir_core.specs.Module.{ModuleParts}
 use Rattle.ir_layout.specs.Limits.{limit_among}
-use Rattle.ir_layout.specs.WrittenTypes.{types_in_arm, types_in_inst}
-use Rattle.ir_layout.specs.declared.limits.LimitKind.{LimitKind}
-use Rattle.ir_flow.specs.Edges.{edges_of}
+use Rattle.ir_layout.specs.WrittenTypes.{types_in_arm}
 use Rattle.ir_calls.specs.Calls
-use Rattle.ir_check.specs.Blocks.{is_terminator, ends_well, begins_well, terminators_keep, entries_keep}
 use Rattle.hard_ir.specs.declared.instruction.HInst.{HInst}
 use Rattle.hard_ir.specs.declared.instruction.HInst.TheVariants.{Cut, Begin, End, Tick, Chk, ChkMem, Mov, Do}
-use Rattle.hard_ir.specs.declared.instruction.When.TheVariants.{Always}
-use Rattle.hard_ir.specs.declared.instruction.HBlock.{HBlock}
-use Rattle.hard_ir.specs.Image.{Table, phi_image}
-use Rattle.hard_ir.specs.Hardened.{HardParts, heads_of, hard_block, hard_blocks, hardened_by}
+use Rattle.hard_ir.specs.Image.{Table}
+use Rattle.hard_ir.specs.Hardened.{HardParts, heads_of, hardened_by}
 use Rattle.hard_ir.specs.Fit
-use Rattle.hard_ir.specs.EdgeChecks.{Guard, direction, guard_of, edge_arm, edge_phi, edge_phis, edge_check, predecessors, leads_to}
-use Rattle.hard_laws.proofs.Images.{IsTable}
-use Rattle.hard_laws.proofs.HardLines.{IsBlockOf, hard_of, both}
+use Rattle.hard_ir.specs.EdgeChecks.{Guard, direction, guard_of, edge_arm, predecessors}
+use Rattle.hard_laws.proofs.HardLines.{hard_of, both}
 use Rattle.hard_laws.proofs.Scalars.{int-limit}
-use Rattle.edge_laws.proofs.Ends.{ending, EndAlike, last, last-behind, edges-alike}
-use Rattle.edge_laws.proofs.WithEdges.{edge_on, edge_blocks, edge_func, edge_module, Passes, of-block}
+use Rattle.edge_laws.proofs.WithEdges.{edge_func, edge_module, Passes}
 
 module _ (table : Table) (ofs : ℕ → ℕ → Option Loc) (m : ModuleParts) where
   abbrev H : HardParts

@@ -1,32 +1,26 @@
 -- Blocks with names for their edges end and begin as they did, and have the same edges.
-use Rattle.std.proofs.Common.{ℕ, zero, suc, ◌≡◌, ◌∙◌, ◌+◌, ◌-◌, ◌||◌, ◌&&◌, Bool, true, false, not, List, [], ◌∷◌, ◌++◌, map, length, Option, Some, None, slice_get, refl, ap, sym as flip, subst, arith, append_assoc}
-use Rattle.std.specs.Prelude.{nat_eq, ◌==◌, if◌then◌else◌}
+use Rattle.std.proofs.Common.{ℕ, suc, ◌≡◌, ◌∙◌, ◌+◌, ◌||◌, ◌&&◌, Bool, true, false, not, List, [], ◌∷◌, ◌++◌, map, length, Option, Some, None, slice_get, refl, ap, sym as flip, subst, arith}
 use Rattle.std.specs.List.{flat_map, list_all, list_any}
 use Rattle.std.proofs.lemmas.List.{map-append}
 use Rattle.std.proofs.lemmas.List.Folds.{list_all-append}
 use Rattle.ir_core.proofs.Lengths.{both_true}
 use Rattle.ir_core.specs.declared.types.Loc.{Loc}
 use Rattle.ir_core.specs.declared.values.Side.{Side}
-use Rattle.ir_core.specs.declared.values.Side.TheVariants.{M, S}
 use Rattle.ir_core.specs.declared.instruction.Inst.{Inst}
 use Rattle.ir_core.specs.declared.instruction.Inst.TheVariants as insts
 use Rattle.ir_core.specs.declared.instruction.Block.{Block}
 use Rattle.ir_core.specs.Instructions.{is_phi}
 use Rattle.ir_core.specs.Module.{ModuleParts, FuncParts}
-use Rattle.ir_flow.specs.Edges.{edges_of}
-use Rattle.ir_lines.specs.Lines.{BlockLine}
-use Rattle.ir_check.specs.Blocks.{is_terminator, ends_well, begins_well, terminators_keep, entries_keep}
+use Rattle.ir_check.specs.Blocks.{is_terminator, ends_well, begins_well, terminators_keep}
 use Rattle.hard_ir.specs.declared.instruction.HInst.{HInst}
 use Rattle.hard_ir.specs.declared.instruction.HInst.TheVariants.{Cut, Begin, End, Tick, Chk, ChkMem, Mov, Do}
-use Rattle.hard_ir.specs.declared.instruction.HBlock.{HBlock}
 use Rattle.hard_ir.specs.Image.{Table, phi_image}
-use Rattle.hard_ir.specs.Hardened.{HardParts, hard_block, hard_blocks, hardened_by}
-use Rattle.hard_ir.specs.Fit.{HardFunc, hard_funcs, HInstLine, HPhiLine, HBlockLine, phi_lines, inst_lines, plain_inst, plain_block, plain_func, plain_line, forms_keep, AllKeep}
-use Rattle.hard_ir.specs.EdgeChecks.{edge_phi, edge_phis, edge_check}
-use Rattle.hard_laws.proofs.Images.{IsTable}
-use Rattle.hard_laws.proofs.HardLines.{IsBlockOf, hard_of, hard-funcs, both}
-use Rattle.edge_laws.proofs.Ends.{ending, EndAlike, last, last-behind, last-cons, numbers-alike, edges-alike}
-use Rattle.edge_laws.proofs.WithEdges.{edge_on, edge_blocks, edge_func, edge_funcs, edge_module, Passes, of-block}
+use Rattle.hard_ir.specs.Hardened.{hard_block, hard_blocks, hardened_by}
+use Rattle.hard_ir.specs.Fit.{HardFunc, HInstLine, phi_lines, inst_lines, plain_inst, plain_block, plain_line, forms_keep, AllKeep}
+use Rattle.hard_ir.specs.EdgeChecks.{edge_phis}
+use Rattle.hard_laws.proofs.HardLines.{IsBlockOf, hard_of, both}
+use Rattle.edge_laws.proofs.Ends.{ending, EndAlike, last, last-behind, last-cons}
+use Rattle.edge_laws.proofs.WithEdges.{edge_on, edge_blocks, Passes, of-block}
 
 -- ---- bodies
 
@@ -145,6 +139,7 @@ module _ (table : Table) (f : FuncParts) where
       → ((k : ℕ) (block : Block) → slice_get blocks k ≡ Some block → ends_well (plain_block (hard_block table f (b + k) block)).insts ≡ true) → EndAlike (map plain_block (edge_blocks table f of b blocks)) blocks
   edge-ends of b [] alike well = tt
   edge-ends of b (block ∷ blocks) alike well =
-      let here : ends_well (plain_block (hard_block table f b block)).insts ≡ true = subst (λ (k : ℕ). ends_well (plain_block (hard_block table f k block)).insts ≡ true) (omega arith) (well 0 block refl) in
-      (on-ends b block (of b) here ∙ alike.0,
-        edge-ends of (b + 1) blocks alike.1 (λ k x h. subst (λ (j : ℕ). ends_well (plain_block (hard_block table f j x)).insts ≡ true) (omega arith) (well (suc k) x h)))
+      let here : ends_well (plain_block (hard_block table f b block)).insts ≡ true = subst (λ (k : ℕ). ends_well (plain_block (hard_block table f k block)).insts ≡ true) (omega arith) (well 0 block refl) in (
+        on-ends b block (of b) here ∙ alike.0,
+        edge-ends of (b + 1) blocks alike.1 (λ k x h. subst (λ (j : ℕ). ends_well (plain_block (hard_block table f j x)).insts ≡ true) (omega arith) (well (suc k) x h)),
+      )

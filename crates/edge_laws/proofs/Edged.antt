@@ -1,7 +1,7 @@
 -- A hardened module some of whose blocks check their edges is an image of its source under other numbers.
 use Rattle.std.proofs.Common.{append-nil, ℕ, zero, suc, ◌≡◌, ◌≢◌, ◌∙◌, ◌+◌, ◌<◌, ◌≤◌, Bool, true, false, List, [], ◌∷◌, ◌++◌, map, length, Option, Some, None, slice_get, refl, ap, sym as flip, subst, arith}
-use Rattle.std.specs.Prelude.{nat_eq, ◌&&◌, if◌then◌else◌}
-use Rattle.std.specs.List.{All, flat_map, list_any, zip}
+use Rattle.std.specs.Prelude.{nat_eq}
+use Rattle.std.specs.List.{All, flat_map, list_any}
 use Rattle.std.specs.Option.{option_map}
 use Rattle.std.proofs.lemmas.List.{map-append, length-map}
 use Rattle.std.proofs.lemmas.Bool.{eqb-true}
@@ -24,24 +24,22 @@ use Rattle.ir_flow.specs.Uses.{reg_in, regs_in, arms_in}
 use Rattle.ir_lines.specs.Lines.{BlockLine}
 use Rattle.ir_check.specs.Blocks.{ends_well, begins_well}
 use Rattle.ir_numbering.specs.Renaming.{Renaming, renamed_loc, renamed_inst, renamed_block, renamed_param, renamed_func, renamed_val}
-use Rattle.hard_ir.specs.declared.instruction.HInst.{HInst}
 use Rattle.hard_ir.specs.declared.instruction.HBlock.{HBlock}
 use Rattle.hard_ir.specs.Image.{phi_image, split_table, ticked}
-use Rattle.hard_ir.specs.Hardened.{HardParts, head_of, heads_of, hard_block, hard_blocks, hard_func, ticked_block, harden}
-use Rattle.hard_ir.specs.Facts.{IsShort, AreShort, list_limit}
-use Rattle.hard_ir.specs.Fit.{HardFunc, hard_funcs, plain_block}
+use Rattle.hard_ir.specs.Hardened.{head_of, hard_block, hard_blocks, hard_func, ticked_block}
+use Rattle.hard_ir.specs.Facts.{IsShort, list_limit}
+use Rattle.hard_ir.specs.Fit.{HardFunc, plain_block}
 use Rattle.hard_ir.specs.Lines.{in_option, in_arm, registers_of}
 use Rattle.hard_ir.specs.Standing.{renamed_item}
-use Rattle.hard_ir.specs.Images.{names_in, names_of, is_named, EdgeNames, phis_for, check_for, IsBlockImage, IsFuncImage, IsCode, IsImage}
+use Rattle.hard_ir.specs.Images.{names_in, names_of, is_named, EdgeNames, IsBlockImage, IsFuncImage, IsCode}
 use Rattle.hard_ir.specs.EdgeChecks
 use Rattle.hard_laws.proofs.Accepted.{Sound, block-line, of-code}
-use Rattle.hard_laws.proofs.HardLines.{IsBlockOf}
 use Rattle.hard_laws.proofs.Rows.{split-is-table}
 use Rattle.hard_laws.proofs.ImageRows.{all-got, ticked-code}
 use Rattle.renamed_modules.proofs.RenamedTypes.{IsApart}
-use Rattle.renamed_modules.proofs.RenamedLines.{flat-images, any-images, result-same}
+use Rattle.renamed_modules.proofs.RenamedLines.{flat-images, result-same}
 use Rattle.renamed_modules.proofs.RenamedFlow.{ends-same, inst-regs, arms-same}
-use Rattle.edge_laws.proofs.Staying.{inside, ty-stays}
+use Rattle.edge_laws.proofs.Staying.{inside}
 use Rattle.edge_laws.proofs.RaisedNumbers.{raised-apart, new-apart}
 use Rattle.edge_laws.proofs.Renumbered.{block-moved, func-moved}
 use Rattle.edge_laws.proofs.Ends.{EndAlike, target-alike, arms-alike, blocks-end, target-same}

@@ -1,7 +1,7 @@
 -- The hardened module of an accepted module fits with checks on its edges, where no function gets too many names.
-use Rattle.std.proofs.Common.{cond, not, ltb, ℕ, zero, suc, ◌≡◌, ◌∙◌, ◌+◌, ◌≤◌, Bool, true, false, List, [], ◌∷◌, ◌++◌, map, length, Option, Some, None, slice_get, refl, ap, sym as flip, subst, arith}
-use Rattle.std.specs.Prelude.{nat_lt, position, if◌then◌else◌}
-use Rattle.std.specs.List.{zip, list_any, position_or_len}
+use Rattle.std.proofs.Common.{cond, not, ltb, ℕ, zero, suc, ◌≡◌, ◌∙◌, ◌+◌, ◌≤◌, Bool, true, false, List, [], ◌∷◌, map, length, Option, Some, None, slice_get, refl, ap, sym as flip, subst, arith}
+use Rattle.std.specs.Prelude.{nat_lt, position}
+use Rattle.std.specs.List.{position_or_len}
 use Rattle.std.specs.Option.{option_map}
 use Rattle.std.proofs.lemmas.Option.{slice_get-map}
 use Rattle.std.proofs.lemmas.Bool.Decides.{nat_tests}
@@ -16,10 +16,10 @@ use Rattle.hard_ir.specs.declared.instruction.HInst.{HInst}
 use Rattle.hard_ir.specs.declared.instruction.HInst.TheVariants.{Cut, Begin, End, Tick, Chk, ChkMem, Mov, Do}
 use Rattle.hard_ir.specs.declared.instruction.HBlock.{HBlock}
 use Rattle.hard_ir.specs.Image.{Table, split_table, with_work, to_ender, since_ender, ticked}
-use Rattle.hard_ir.specs.Hardened.{HardParts, head_of, heads_of, hard_block, hard_func, ticked_block, hardened_by, harden}
+use Rattle.hard_ir.specs.Hardened.{HardParts, heads_of, hard_block, ticked_block, harden}
 use Rattle.hard_ir.specs.Fit.{Fits, HardFunc, hard_funcs}
-use Rattle.hard_ir.specs.Images.{is_named, IsSameModule}
-use Rattle.hard_ir.specs.EdgeChecks.{Marks, marks_of, names_after, with_names, raised, bit, edge_check, edge_block, first_tick_raised, edged_func, edged_funcs, with_funcs, edged_by, edged, is_over, first_over}
+use Rattle.hard_ir.specs.Images.{is_named}
+use Rattle.hard_ir.specs.EdgeChecks.{Marks, marks_of, names_after, with_names, raised, bit, edge_check, edged_func, edged_funcs, with_funcs, edged_by, edged, is_over, first_over}
 use Rattle.hard_laws.proofs.Accepted.{Sound, sound}
 use Rattle.hard_laws.proofs.Rows.{split-is-table}
 use Rattle.hard_laws.proofs.Fitting.{fits}
@@ -30,8 +30,8 @@ use Rattle.renamed_modules.proofs.RenamedAccepted.{accepted-where-few}
 use Rattle.edge_laws.proofs.RaisedNumbers.{raised-step}
 use Rattle.edge_laws.proofs.RaisedTicks.{bare-raised}
 use Rattle.edge_laws.proofs.Edged.{hard_of, renumbered, edged-count, name_at, marks, named, new-name, one-block, with_name, made-of}
-use Rattle.edge_laws.proofs.EdgedModules.{renumbered_funcs, renumbered_module, renumbered-at, edged-func-at, edged-is, harden-funcs, heads-same, count-same, same-module}
-use Rattle.edge_laws.proofs.WithEdges.{edge_on, edge_blocks, edge_func, edge_funcs, edge_module}
+use Rattle.edge_laws.proofs.EdgedModules.{renumbered_funcs, renumbered_module, renumbered-at, edged-is, harden-funcs, heads-same, same-module}
+use Rattle.edge_laws.proofs.WithEdges.{edge_on, edge_blocks, edge_funcs, edge_module}
 use Rattle.edge_laws.proofs.EdgeDefinitions.{Asked}
 use Rattle.edge_laws.proofs.EdgeFits.{edges-fit}
 

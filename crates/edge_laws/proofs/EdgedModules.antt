@@ -1,18 +1,17 @@
 -- Hardened modules whose blocks check their edges are images by names of what they were hardened of, whichever blocks are chosen.
-use Rattle.std.proofs.Common.{ℕ, zero, suc, ◌≡◌, ◌∙◌, ◌+◌, Bool, List, [], ◌∷◌, map, length, Option, Some, None, slice_get, refl, ap, sym as flip, subst, arith}
+use Rattle.std.proofs.Common.{ℕ, zero, suc, ◌≡◌, ◌∙◌, ◌+◌, Bool, List, [], ◌∷◌, map, length, Some, slice_get, refl, ap, sym as flip, subst, arith}
 use Rattle.std.specs.List.{All, zip}
-use Rattle.std.proofs.lemmas.List.{length-map}
 use Rattle.ir_core.specs.declared.types.Ty.{Ty}
 use Rattle.ir_core.specs.Module.{ModuleParts, FuncParts}
 use Rattle.ir_check.specs.Faults.{IsAccepted}
-use Rattle.ir_numbering.specs.Renaming.{Renaming, renamed_func, renamed_param}
+use Rattle.ir_numbering.specs.Renaming.{Renaming, renamed_param}
 use Rattle.hard_ir.specs.declared.instruction.HBlock.{HBlock}
 use Rattle.hard_ir.specs.Image.{split_table}
-use Rattle.hard_ir.specs.Hardened.{HardParts, head_of, heads_of, hard_func, ticked_block, harden}
+use Rattle.hard_ir.specs.Hardened.{head_of, heads_of, hard_func, ticked_block, harden}
 use Rattle.hard_ir.specs.Facts.{IsShort, AreShort}
 use Rattle.hard_ir.specs.Fit.{HardFunc, hard_funcs}
-use Rattle.hard_ir.specs.Images.{Keeps, IsSameFunc, IsSameModule, IsFuncImage, IsCode, IsImage, IsNamedImage}
-use Rattle.hard_ir.specs.EdgeChecks.{Marks, raised, raising, with_names, marks_of, edged_func, edged_funcs, with_funcs, edged_by}
+use Rattle.hard_ir.specs.Images.{IsSameFunc, IsSameModule, IsFuncImage, IsCode, IsImage, IsNamedImage}
+use Rattle.hard_ir.specs.EdgeChecks.{raised, raising, with_names, marks_of, edged_func, edged_funcs, with_funcs, edged_by}
 use Rattle.hard_laws.proofs.Accepted.{Sound, sound}
 use Rattle.hard_laws.proofs.ImageRows.{all-got}
 use Rattle.edge_laws.proofs.Staying.{inside, ty-stays, types-stay, globals-stay, declares-stay}

@@ -1,7 +1,7 @@
 -- Blocks that end alike have the same edges, guarded branches and phis of edges: those of a hardened function and of its source do.
-use Rattle.std.proofs.Common.{ℕ, zero, suc, ◌≡◌, ◌∙◌, ◌+◌, ◌-◌, ◌||◌, ◌&&◌, Bool, true, false, not, List, [], ◌∷◌, ◌++◌, map, length, Option, Some, None, slice_get, refl, ap, sym as flip, subst, arith, append-nil}
+use Rattle.std.proofs.Common.{ℕ, suc, ◌≡◌, ◌∙◌, ◌+◌, ◌-◌, Bool, true, false, not, List, [], ◌∷◌, ◌++◌, map, length, Option, Some, None, slice_get, refl, ap, sym as flip, subst, arith, append-nil}
 use Rattle.std.specs.Prelude.{nat_eq, if◌then◌else◌}
-use Rattle.std.specs.List.{flat_map, filter, filter_map, list_any}
+use Rattle.std.specs.List.{flat_map, filter_map, list_any}
 use Rattle.std.specs.Option.{option_map, option_map_or, option_or, is_some}
 use Rattle.std.proofs.lemmas.List.{map-append, length-map}
 use Rattle.std.proofs.lemmas.Option.{slice_get-map}
@@ -9,25 +9,22 @@ use Rattle.ir_core.proofs.Lengths.{both_true}
 use Rattle.ir_core.specs.declared.types.Loc.{Loc}
 use Rattle.ir_core.specs.declared.values.Side.{Side}
 use Rattle.ir_core.specs.declared.values.Side.TheVariants.{M}
-use Rattle.ir_core.specs.declared.values.Val.{Val}
 use Rattle.ir_core.specs.declared.values.Val.TheVariants as values
 use Rattle.ir_core.specs.declared.instruction.Inst.{Inst}
 use Rattle.ir_core.specs.declared.instruction.Inst.TheVariants as insts
 use Rattle.ir_core.specs.declared.instruction.Block.{Block}
-use Rattle.ir_core.specs.Module.{ModuleParts, FuncParts}
+use Rattle.ir_core.specs.Module.{FuncParts}
 use Rattle.ir_core.specs.Instructions.{is_phi}
 use Rattle.ir_flow.specs.Edges.{labels_of, last_labels, numbered_from, number_of, edge_to, edges_from, edges_of, is_loop_head}
 use Rattle.ir_check.specs.Blocks.{is_terminator, ends_well}
 use Rattle.ir_numbering.specs.Renaming.{renamed_loc, renamed_inst, renamed_block}
 use Rattle.hard_ir.specs.declared.instruction.HInst.{HInst}
 use Rattle.hard_ir.specs.declared.instruction.HInst.TheVariants.{Cut, Begin, End, Tick, Chk, ChkMem, Mov, Do}
-use Rattle.hard_ir.specs.declared.instruction.HBlock.{HBlock}
-use Rattle.hard_ir.specs.Image.{Table, phi_image, split_table, with_work, to_ender, since_ender, ticked}
-use Rattle.hard_ir.specs.Hardened.{at_entry, at_head, hard_block, hard_blocks, hard_func, ticked_block}
+use Rattle.hard_ir.specs.Image.{Table, phi_image, with_work, to_ender, since_ender, ticked}
+use Rattle.hard_ir.specs.Hardened.{at_entry, at_head, hard_block, hard_blocks, ticked_block}
 use Rattle.hard_ir.specs.Fit.{plain_inst, plain_block}
 use Rattle.hard_ir.specs.EdgeChecks.{Guard, guard_in, guard_at, guard_of, leads_to, guards, predecessors, is_edge_target, direction, edge_arm}
 use Rattle.hard_laws.proofs.Images.{EndsAs, IsTable}
-use Rattle.hard_laws.proofs.Rows.{split-is-table}
 use Rattle.renamed_modules.proofs.RenamedTypes.{IsApart, same-test}
 use Rattle.renamed_modules.proofs.RenamedLines.{any-images}
 use Rattle.renamed_modules.proofs.RenamedFlow.{last-same}
@@ -123,10 +120,12 @@ module _ (table : Table) (is : IsTable table) where
       let items : map plain_inst (table.image inst ++ []) ≡ map plain_inst own.0 ++ inst ∷ [] = ap (map plain_inst) (append-nil (table.image inst) ∙ own.1) ∙ map-append plain_inst own.0 (Do M inst true ∷ []) in
       (inst, refl, ap last items ∙ last-behind (map plain_inst own.0) (inst ∷ []) inst refl)
   images-end (inst ∷ next ∷ body) e =
-      let rest = images-end (next ∷ body) (both_true (not (is_terminator inst)) (ends_well (next ∷ body)) e).1 in
-      (rest.0, last-cons inst next body ∙ rest.1,
+      let rest = images-end (next ∷ body) (both_true (not (is_terminator inst)) (ends_well (next ∷ body)) e).1 in (
+        rest.0,
+        last-cons inst next body ∙ rest.1,
         ap last (map-append plain_inst (table.image inst) (flat_map table.image (next ∷ body)))
-        ∙ last-behind (map plain_inst (table.image inst)) (map plain_inst (flat_map table.image (next ∷ body))) rest.0 rest.2)
+            ∙ last-behind (map plain_inst (table.image inst)) (map plain_inst (flat_map table.image (next ∷ body))) rest.0 rest.2,
+      )
 
   pub block-ends : (f : FuncParts) (b : ℕ) (block : Block) → ends_well block.insts ≡ true → ending (plain_block (ticked_block (hard_block table f b block))) ≡ ending block
   block-ends f b block well =

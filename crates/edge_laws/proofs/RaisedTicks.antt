@@ -1,5 +1,5 @@
 -- Code whose first tick is one greater is an image of the same instructions, and fits and stands as it did.
-use Rattle.std.proofs.Common.{ℕ, zero, suc, ◌≡◌, ◌∙◌, ◌+◌, ◌<◌, ◌^◌, Bool, true, false, List, [], ◌∷◌, ◌++◌, map, length, refl, ap, sym as flip, subst, arith, append_assoc}
+use Rattle.std.proofs.Common.{ℕ, zero, suc, ◌≡◌, ◌∙◌, ◌+◌, ◌<◌, Bool, true, false, List, [], ◌∷◌, ◌++◌, map, length, refl, ap, arith}
 use Rattle.std.specs.Prelude.{nat_lt}
 use Rattle.std.specs.List.{list_all}
 use Rattle.std.proofs.lemmas.Bool.Decides.{nat_tests}
@@ -10,11 +10,11 @@ use Rattle.ir_core.specs.Module.{ModuleParts, FuncParts}
 use Rattle.ir_flow.specs.Edges.{edges_of, is_loop_head}
 use Rattle.hard_ir.specs.declared.instruction.HInst.{HInst}
 use Rattle.hard_ir.specs.declared.instruction.HInst.TheVariants.{Cut, Begin, End, Tick, Chk, ChkMem, Mov, Do}
-use Rattle.hard_ir.specs.Image.{cut_point, leaves, placed, tick_if, row, split_table, ticked}
+use Rattle.hard_ir.specs.Image.{leaves, placed, tick_if, row, split_table, ticked}
 use Rattle.hard_ir.specs.Hardened.{at_entry, at_head, hard_block}
 use Rattle.hard_ir.specs.Facts.{list_limit}
 use Rattle.hard_ir.specs.Images.{cuts_onto, Rows, NoRow, PhiRow, Row, is_small, IsCode}
-use Rattle.hard_ir.specs.EdgeChecks.{raised_tick, first_tick_raised}
+use Rattle.hard_ir.specs.EdgeChecks.{first_tick_raised}
 use Rattle.hard_laws.proofs.HardLines.{both}
 use Rattle.hard_laws.proofs.ImageRows.{is_tickless, placed-tickless, entry-tickless, head-tickless, is_under, ticked-under, ticked-length, ticked-code}
 use Rattle.hard_laws.proofs.Numbered.{bare}

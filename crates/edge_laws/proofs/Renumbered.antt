@@ -19,19 +19,18 @@ use Rattle.ir_core.specs.declared.instruction.Block.{Block}
 use Rattle.ir_core.specs.Module.{ModuleParts, FuncParts}
 use Rattle.ir_flow.specs.Edges.{edges_of, is_loop_head}
 use Rattle.ir_calls.specs.Calls.{external_named}
-use Rattle.ir_numbering.specs.Renaming.{Renaming, renamed_loc, renamed_ty, renamed_val, renamed_args, renamed_option, renamed_inst, renamed_block, renamed_param, renamed_func}
+use Rattle.ir_numbering.specs.Renaming.{Renaming, renamed_loc, renamed_ty, renamed_val, renamed_inst, renamed_block, renamed_param, renamed_func}
 use Rattle.hard_ir.specs.declared.instruction.When.{When}
-use Rattle.hard_ir.specs.declared.instruction.When.TheVariants.{Plain, Tx}
+use Rattle.hard_ir.specs.declared.instruction.When.TheVariants.{Tx}
 use Rattle.hard_ir.specs.declared.instruction.HVal.{HVal}
-use Rattle.hard_ir.specs.declared.instruction.HVal.TheVariants as operands
 use Rattle.hard_ir.specs.declared.instruction.HInst.{HInst}
 use Rattle.hard_ir.specs.declared.instruction.HInst.TheVariants.{Cut, Begin, End, Tick, Chk, ChkMem, Mov, Do}
 use Rattle.hard_ir.specs.declared.instruction.HBlock.{HBlock}
-use Rattle.hard_ir.specs.Image.{Table, unflagged, done_by, copies, single_result, copy_of, phi_image, check_when, checked_when, checked_before, checks_before, is_done_twice, core, on_shadow, checks_after, CallKind, Inner, Outer, OfLock, kind_of, ends_for, begins_for, ends_before, begins_after, body_of, placed, cut_point, pair_of, leaves, tick_if, row, split_table, is_ender, to_ender, since_ender, with_work, ticked}
-use Rattle.hard_ir.specs.Hardened.{HardParts, at_entry, at_head, hard_block, hard_blocks, hard_func, ticked_block}
+use Rattle.hard_ir.specs.Image.{unflagged, done_by, copies, single_result, copy_of, phi_image, check_when, checked_when, checked_before, checks_before, is_done_twice, core, on_shadow, checks_after, CallKind, Inner, Outer, OfLock, kind_of, ends_for, begins_for, ends_before, begins_after, body_of, placed, cut_point, pair_of, leaves, tick_if, row, split_table, is_ender, to_ender, since_ender, with_work, ticked}
+use Rattle.hard_ir.specs.Hardened.{at_entry, at_head, hard_block, hard_blocks, hard_func, ticked_block}
 use Rattle.hard_ir.specs.Standing.{renamed_operand, renamed_item}
 use Rattle.hard_ir.specs.EdgeChecks.{renamed_phi, renamed_hard_block}
-use Rattle.renamed_modules.proofs.RenamedTypes.{IsApart, map-map}
+use Rattle.renamed_modules.proofs.RenamedTypes.{IsApart}
 use Rattle.renamed_modules.proofs.RenamedLines.{flat-images}
 use Rattle.renamed_modules.proofs.RenamedFlow.{edges-same}
 use Rattle.edge_laws.proofs.Staying.{inside, ty-stays}

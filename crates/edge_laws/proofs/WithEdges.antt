@@ -1,5 +1,5 @@
 -- A hardened module with names for the edges of some of its blocks: its lines, and rules that each of them keeps.
-use Rattle.std.proofs.Common.{ℕ, zero, suc, ◌≡◌, ◌∙◌, ◌+◌, ◌&&◌, Bool, true, false, List, [], ◌∷◌, ◌++◌, map, length, Option, Some, None, slice_get, refl, ap, sym as flip, subst, arith}
+use Rattle.std.proofs.Common.{ℕ, zero, suc, ◌≡◌, ◌∙◌, ◌+◌, Bool, true, List, [], ◌∷◌, ◌++◌, map, length, Option, Some, None, slice_get, refl, ap, sym as flip, subst, arith}
 use Rattle.std.specs.List.{list_all, zip}
 use Rattle.std.proofs.lemmas.List.Folds.{list_all-append}
 use Rattle.ir_core.proofs.Lengths.{both_true}
@@ -14,7 +14,7 @@ use Rattle.hard_ir.specs.declared.instruction.HInst.{HInst}
 use Rattle.hard_ir.specs.declared.instruction.HBlock.{HBlock}
 use Rattle.hard_ir.specs.Image.{Table}
 use Rattle.hard_ir.specs.Hardened.{HardParts, head_of, heads_of, hard_block, hard_blocks, hardened_by}
-use Rattle.hard_ir.specs.Fit.{HardFunc, hard_funcs, HardLine, OuterLine, HBlockLine, HPhiLine, HInstLine, phi_lines, inst_lines, block_lines, blocks_lines, funcs_lines, outer_lines, hard_lines, AllKeep}
+use Rattle.hard_ir.specs.Fit.{HardFunc, hard_funcs, HardLine, OuterLine, HBlockLine, HPhiLine, HInstLine, phi_lines, inst_lines, block_lines, blocks_lines, funcs_lines, outer_lines, AllKeep}
 use Rattle.hard_ir.specs.EdgeChecks.{edge_phi, edge_phis, edge_check}
 use Rattle.hard_laws.proofs.HardLines.{IsBlockOf, hard_of, hard-funcs, both}
 
@@ -101,7 +101,7 @@ module _ (table : Table) (ofs : ℕ → ℕ → Option Loc) (m : ModuleParts) (b
 
         by_name : (o : Option Loc) → ofs n b ≡ o
             → list_all after (phi_lines n now b 0 (edge_on o f.blocks (hard_block table f b block)).phis
-                ++ inst_lines n now b (length (edge_on o f.blocks (hard_block table f b block)).phis) (edge_on o f.blocks (hard_block table f b block)).list) ≡ true
+            ++ inst_lines n now b (length (edge_on o f.blocks (hard_block table f b block)).phis) (edge_on o f.blocks (hard_block table f b block)).list) ≡ true
         by_name None e =
             list_all-append after (phi_lines n now b 0 (hard_block table f b block).phis) (inst_lines n now b (length (hard_block table f b block).phis) (hard_block table f b block).list)
             ∙ both (phis-pass (hard_block table f b block).phis 0 0 rest.0) (items-pass (hard_block table f b block).list _ _ rest.1)
