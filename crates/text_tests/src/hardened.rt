@@ -1,15 +1,12 @@
 //! Hardened modules, line by line: of a `Do` its side, its opcode with its flags, its result and whether it retires; of a check and of
 //! a copy its type and its register; of a check of memory its type and both operands; of a tick its number. What is wanted is worked out by
 //! hand from the rows of the image table.
-ghost use Rattle.hard_ir.specs.Hardened.{IsHardenedBy};
-ghost use Rattle.hard_ir.specs.Image.{check_table};
-
 use crate::cases::{Asked, compare};
 use crate::parsed::module_of;
 use check_insert::checks;
 use hard_ir::{HBlock, HInst, HVal, Hardened, When};
 use inst_meaning::destination;
-use ir_check::accept;
+use ir_check::{Accepted, accept};
 use ir_core::{Flags, Func, Inst, Loc, Side, Ty, Val, Width};
 use itoa::Buffer;
 use relaxed_mem::relax;
@@ -208,13 +205,27 @@ fn block_text(rt: &impl Abort, out: &mut String, f: &Func, block: &HBlock) {
     }
 }
 
-/// The hardened module of the whole table, made of one with checks.
-fn whole(alloc: Global, checked: Hardened) -> Result<Hardened, AllocError>
-    requires { IsHardenedBy check_table checked }
-{
+/// The hardened module of the whole table.
+fn whole(alloc: Global, accepted: &Accepted) -> Result<Hardened, AllocError> {
+    let flow = shadow(alloc, accepted)?;
+    let checked = checks(alloc, flow)?;
     let relaxed = relax(alloc, checked)?;
     let placed = place(alloc, relaxed)?;
     split(alloc, placed)
+}
+
+/// The hardened module of the first columns.
+fn first_columns(
+    rt: &impl Abort,
+    alloc: Global,
+    accepted: &Accepted,
+    columns: Columns,
+) -> Hardened {
+    let flow = shadow(alloc, accepted).expect(rt, "no memory for a module");
+    match columns {
+        Columns::Flow | Columns::Whole => flow,
+        Columns::Checks => checks(alloc, flow).expect(rt, "no memory for a module"),
+    }
 }
 
 /// The hardened module of a text.
@@ -226,16 +237,12 @@ fn hardened(rt: &impl Abort, alloc: Global, text: &str, columns: Columns) -> Har
             rt.abort()
         }
     };
-    let flow = shadow(alloc, &accepted).expect(rt, "no memory for a module");
+    let made = match columns {
+        Columns::Whole => whole(alloc, &accepted).expect(rt, "no memory for a module"),
+        Columns::Flow | Columns::Checks => first_columns(rt, alloc, &accepted, columns),
+    };
     drop(accepted);
-    match columns {
-        Columns::Flow => flow,
-        Columns::Checks => checks(alloc, flow).expect(rt, "no memory for a module"),
-        Columns::Whole => {
-            let checked = checks(alloc, flow).expect(rt, "no memory for a module");
-            whole(alloc, checked).expect(rt, "no memory for a module")
-        }
-    }
+    made
 }
 
 /// The lines of the hardened module of a text.
