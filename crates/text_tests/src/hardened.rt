@@ -214,18 +214,10 @@ fn whole(alloc: Global, accepted: &Accepted) -> Result<Hardened, AllocError> {
     split(alloc, placed)
 }
 
-/// The hardened module of the first columns.
-fn first_columns(
-    rt: &impl Abort,
-    alloc: Global,
-    accepted: &Accepted,
-    columns: Columns,
-) -> Hardened {
-    let flow = shadow(alloc, accepted).expect(rt, "no memory for a module");
-    match columns {
-        Columns::Flow | Columns::Whole => flow,
-        Columns::Checks => checks(alloc, flow).expect(rt, "no memory for a module"),
-    }
+/// The hardened module with checks.
+fn checked(alloc: Global, accepted: &Accepted) -> Result<Hardened, AllocError> {
+    let flow = shadow(alloc, accepted)?;
+    checks(alloc, flow)
 }
 
 /// The hardened module of a text.
@@ -238,11 +230,12 @@ fn hardened(rt: &impl Abort, alloc: Global, text: &str, columns: Columns) -> Har
         }
     };
     let made = match columns {
-        Columns::Whole => whole(alloc, &accepted).expect(rt, "no memory for a module"),
-        Columns::Flow | Columns::Checks => first_columns(rt, alloc, &accepted, columns),
+        Columns::Flow => shadow(alloc, &accepted),
+        Columns::Checks => checked(alloc, &accepted),
+        Columns::Whole => whole(alloc, &accepted),
     };
     drop(accepted);
-    made
+    made.expect(rt, "no memory for a module")
 }
 
 /// The lines of the hardened module of a text.
