@@ -624,7 +624,7 @@ m ret *
 cut
 begin
 tick 4
-m call *
+m call a *
 mov i32 a
 begin
 tick 4
@@ -632,7 +632,7 @@ m call *
 cut
 begin
 tick 4
-m call *
+m call b *
 mov i32 b
 begin
 tick 5
