@@ -1,5 +1,5 @@
 -- In the hardened module of the image table the code after each `cut` and each `end`, and at each lock or unlock call, may be done outside.
-use Rattle.std.proofs.Common.{ℕ, zero, suc, ◌+◌, ◌≡◌, ◌≢◌, ◌∙◌, Bool, true, false, List, [], ◌∷◌, ◌++◌, map, Option, Some, None, slice_get, drop, refl, ap, sym, subst, append_assoc}
+use Rattle.std.proofs.Common.{ℕ, zero, suc, ◌+◌, ◌≡◌, ◌≢◌, ◌∙◌, Bool, true, false, List, [], ◌∷◌, ◌++◌, map, Option, Some, None, slice_get, drop, ◌⊎◌, inl, inr, refl, ap, sym, subst, append_assoc}
 use Rattle.std.specs.List.{flat_map}
 use Rattle.std.specs.Option.{option_map_or}
 use Rattle.ir_core.specs.declared.types.Loc.{Loc}
@@ -30,11 +30,11 @@ use Rattle.tx_bounds.specs.Outsides.{IsOutside, Begins, Copies, Checks, Cuts, Ca
 
 -- ---- items that leave a thread where it is, inside or outside
 
-abbrev IsNoCall : Inst → Type 0
+abbrev pub IsNoCall : Inst → Type 0
 IsNoCall (insts.Call dst ret callee args) = ⊥
 IsNoCall inst = Unit {0}
 
-abbrev IsOther : HInst → Type 0
+abbrev pub IsOther : HInst → Type 0
 IsOther (Do side inst retires) = IsNoCall inst
 IsOther (Mov ty reg) = Unit {0}
 IsOther (Chk when ty reg) = Unit {0}
@@ -53,14 +53,14 @@ others [] ys a b = b
 others (x ∷ xs) ys a b = (a.0, others xs ys a.1 b)
 
 module _ (m : ModuleParts) where
-  abbrev hard : HardParts
+  abbrev pub hard : HardParts
   hard = harden m
 
-  abbrev Out : List HInst → Type 0
+  abbrev pub Out : List HInst → Type 0
   Out list = IsOutside hard list
 
   -- after each `cut` and each `end`, and at each call that takes or gives a lock, the list is as it may be outside
-  data OutRight : List HInst → Type 0 where
+  pub data OutRight : List HInst → Type 0 where
     Nothing : OutRight []
     ACut : (list : List HInst) → Out list → OutRight list → OutRight (Cut ∷ list)
     AnEnd : (list : List HInst) → Out list → OutRight list → OutRight (End ∷ list)
@@ -165,3 +165,93 @@ module _ (m : ModuleParts) where
   rows-right : (list : List Inst) → OutRight (flat_map (row m 0) list)
   rows-right [] = Nothing
   rows-right (inst ∷ list) = both (row m 0 inst) (flat_map (row m 0) list) (row-right inst) (rows-right list)
+
+  -- ---- ticks
+
+  ticked-out : (since : ℕ) (list : List HInst) → Out list → Out (ticked since list)
+  ticked-out since list (Begins rest) = Begins _
+  ticked-out since list (Copies ty reg rest out) = Copies ty reg _ (ticked-out (suc since) rest out)
+  ticked-out since list (Checks when ty reg rest out) = Checks when ty reg _ (ticked-out (suc since) rest out)
+  ticked-out since list (Cuts rest out) = Cuts _ (ticked-out (suc since) rest out)
+  ticked-out since list (Calls side dst ret callee args retires rest outer out) =
+      Calls side dst ret callee args retires _ outer (ticked-out (since_ender since (Do side (insts.Call dst ret callee args) retires)) rest out)
+
+  ticked-right : (since : ℕ) (list : List HInst) → OutRight list → OutRight (ticked since list)
+  ticked-right since list Nothing = Nothing
+  ticked-right since list (ACut rest out right) = ACut _ (ticked-out (suc since) rest out) (ticked-right (suc since) rest right)
+  ticked-right since list (AnEnd rest out right) = AnEnd _ (ticked-out (suc since) rest out) (ticked-right (suc since) rest right)
+  ticked-right since list (ACall side dst ret callee args retires rest out right) =
+      ACall side dst ret callee args retires _ (λ lock. ticked-out since (Do side (insts.Call dst ret callee args) retires ∷ rest) (out lock))
+      (ticked-right (since_ender since (Do side (insts.Call dst ret callee args) retires)) rest right)
+  ticked-right since list (Another (Do side inst retires) rest other right) = Another _ _ other (ticked-right _ rest right)
+  ticked-right since list (Another (Tick work) rest other right) = Another _ _ tt (ticked-right _ rest right)
+  ticked-right since list (Another (Mov ty reg) rest other right) = Another _ _ tt (ticked-right _ rest right)
+  ticked-right since list (Another (Chk when ty reg) rest other right) = Another _ _ tt (ticked-right _ rest right)
+  ticked-right since list (Another (ChkMem ty ptr val) rest other right) = Another _ _ tt (ticked-right _ rest right)
+  ticked-right since list (Another Begin rest other right) = Another _ _ tt (ticked-right _ rest right)
+  ticked-right since list (Another Cut rest other right) = absurd other
+  ticked-right since list (Another End rest other right) = absurd other
+
+  -- ---- blocks
+
+  entry-right : (params : List (Ty × Loc)) → OutRight (map copy_of params ++ cut_point)
+  entry-right [] = ACut _ (Begins []) (Another Begin [] tt Nothing)
+  entry-right (param ∷ params) = Another _ _ tt (entry-right params)
+
+  at-entry-right : (f : FuncParts) (n : ℕ) → OutRight (at_entry (split_table m) f n)
+  at-entry-right f zero = entry-right f.params
+  at-entry-right f (suc n) = Nothing
+
+  head-right : (b : Bool) → OutRight (at_head (split_table m) b)
+  head-right true = ACut _ (Begins []) (Another Begin [] tt Nothing)
+  head-right false = Nothing
+
+  block-right : (f : FuncParts) (n : ℕ) (block : Block) → OutRight (ticked_block (hard_block (split_table m) f n block)).list
+  block-right f n block = ticked-right 0 _
+      (both (at_entry (split_table m) f n) _ (at-entry-right f n)
+      (both (at_head (split_table m) (is_loop_head (edges_of f).pairs n)) _ (head-right (is_loop_head (edges_of f).pairs n)) (rows-right block.insts)))
+
+  blocks-right : (f : FuncParts) (n : ℕ) (blocks : List Block) (b : ℕ) → OutRight (list_at (map ticked_block (hard_blocks (split_table m) f n blocks)) b)
+  blocks-right f n [] b = Nothing
+  blocks-right f n (block ∷ blocks) zero = block-right f n block
+  blocks-right f n (block ∷ blocks) (suc b) = blocks-right f (n + 1) blocks b
+
+  funcs-right : (funcs : List FuncParts) (n b : ℕ)
+      → OutRight (list_at (option_map_or (λ blocks. blocks) (slice_get (map (map ticked_block) (map (hard_func (split_table m)) funcs)) n) []) b)
+  funcs-right [] n b = Nothing
+  funcs-right (f ∷ funcs) zero b = blocks-right f 0 f.blocks b
+  funcs-right (f ∷ funcs) (suc n) b = funcs-right funcs n b
+
+  -- of each block of the hardened module
+  pub out-right : (function block : ℕ) → OutRight (list_at (blocks_at hard function) block)
+  out-right function block = funcs-right m.funcs function block
+
+  abbrev pub Ends : Option HInst → Type 0
+  Ends o = (o ≡ Some Cut) ⊎ (o ≡ Some End)
+
+  after-out : (list : List HInst) (i : ℕ) → OutRight list → Ends (slice_get list i) → Out (drop (suc i) list)
+  after-out list i Nothing at = absurd (never at)
+    where
+      never : Ends None → ⊥
+      never (inl e) = cc
+      never (inr e) = cc
+  after-out list zero (ACut rest out right) at = out
+  after-out list (suc i) (ACut rest out right) at = after-out rest i right at
+  after-out list zero (AnEnd rest out right) at = out
+  after-out list (suc i) (AnEnd rest out right) at = after-out rest i right at
+  after-out list zero (ACall side dst ret callee args retires rest out right) at = absurd (never at)
+    where
+      never : Ends (Some (Do side (insts.Call dst ret callee args) retires)) → ⊥
+      never (inl e) = cc
+      never (inr e) = cc
+  after-out list (suc i) (ACall side dst ret callee args retires rest out right) at = after-out rest i right at
+  after-out list zero (Another item rest other right) at = absurd (never at)
+    where
+      never : Ends (Some item) → ⊥
+      never (inl e) = let same : item ≡ Cut = cc in subst IsOther same other
+      never (inr e) = let same : item ≡ End = cc in subst IsOther same other
+  after-out list (suc i) (Another item rest other right) at = after-out rest i right at
+
+  -- after each `cut` and each `end` of the hardened module
+  pub ends-outside : (frame : Frame) → Ends (inst_at hard frame) → Out (drop (suc frame.index) (list_at (blocks_at hard frame.function) frame.block))
+  ends-outside frame at = after-out (list_at (blocks_at hard frame.function) frame.block) frame.index (out-right frame.function frame.block) at
