@@ -3,4 +3,4 @@
 
 mod laws;
 
-pub use laws::{attempts_stay_few, commits_come_where_they_may};
+pub use laws::{attempts_stay_few, commits_come_where_they_may, little_is_done_outside};
