@@ -19,7 +19,7 @@ use std::mem;
 
 /// The shadows' registers. What phis gave them is due until they are used next: so a branch gives both sides their words, or for want
 /// of memory neither. Contracts see the registers once they have what is due.
-#[derive(Drop)]
+#[derive(Clone, Drop)]
 pub struct Shadows {
     registers: Registers,
     due: Vec<(Loc, u64)>,

@@ -13,7 +13,7 @@ use std::alloc::{AllocError, Global};
 
 /// A function at work: its place, two copies of its registers, the stack mark at its start, and the register that waits for the
 /// function that it called. A place is the numbers of a function and of a block, and an index in the block's list.
-#[derive(Drop)]
+#[derive(Clone, Drop)]
 pub struct Frame {
     pub function: usize,
     pub block: usize,

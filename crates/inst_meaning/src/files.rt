@@ -9,7 +9,7 @@ use std::marker::Model;
 
 /// One copy of the registers of a frame: a word for each that is assigned, by number. Contracts see it as a list of optional
 /// words; a register past its end has none. A word has at most 128 bits.
-#[derive(Drop)]
+#[derive(Clone, Drop)]
 pub struct Registers {
     words: Vec<Option<u128>>,
 }
