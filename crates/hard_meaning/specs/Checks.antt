@@ -3,26 +3,19 @@
 -- Choices: a check compares words of its type's width. A check that isn't active takes its turn and reads nothing. One of memory
 -- is an access like any other: it must be valid, its line must have room, and it aborts others that stand in its way before it
 -- compares.
-use Rattle.std.specs.Prelude.{ℕ, ◌%◌, ◌^◌, nat_eq, Bool, true, not, [], Option}
+use Rattle.std.specs.Prelude.{ℕ, ◌%◌, ◌^◌, nat_eq, Bool, [], Option}
 use Rattle.ir_core.specs.declared.types.Ty.{Ty}
 use Rattle.ir_core.specs.declared.types.Width.{Width}
 use Rattle.ir_core.specs.declared.values.Val.TheVariants as values
 use Rattle.ir_layout.specs.Memory.{layout_of}
 use Rattle.inst_meaning.specs.Operands.{word_at}
-use Rattle.hard_ir.specs.declared.instruction.When.{When}
-use Rattle.hard_ir.specs.declared.instruction.When.TheVariants.{Always, Plain, Tx}
+pub use Rattle.upset_model.specs.Windows.{is_active}
 use Rattle.hard_ir.specs.declared.instruction.HVal.{HVal}
 use Rattle.hard_ir.specs.declared.instruction.HVal.TheVariants as operands
 use Rattle.hard_ir.specs.Facts.{register_bits}
 use Rattle.hard_ir.specs.Hardened.{HardParts}
 use Rattle.hard_frames.specs.declared.state.Frame.{Frame}
 use Rattle.hard_frames.specs.Frames.{file}
-
--- whether a check compares, inside a transaction or outside
-abbrev pub is_active : When → Bool → Bool
-is_active Always inside = true
-is_active Plain inside = not inside
-is_active Tx inside = inside
 
 -- two words are the same word of a type
 abbrev pub same_word : Ty → ℕ → ℕ → Bool

@@ -5,14 +5,9 @@
 use Rattle.std.specs.Prelude.{ℕ, suc, Bool, true, false, ◌||◌, List, [], ◌∷◌}
 use Rattle.std.specs.List.{list_any}
 use Rattle.line_sets.specs.Sets.{has}
+pub use Rattle.upset_model.specs.declared.records.Record.{Record}
+pub use Rattle.upset_model.specs.declared.records.Record.TheVariants.{Missed, Window, Hit, Undone, Stacked}
 use Rattle.hard_meaning.specs.State.{Mode, Free, Inside, Worker, Upset, Nowhere, OnAnother, InWindow, Struck, State}
-
-pub data Record : Type 0 where
-  Missed : Record
-  Window : Record
-  Hit : Record
-  Undone : Record
-  Stacked : Record
 
 abbrev pub struck_in : Mode → List ℕ
 struck_in (Free plain) = []

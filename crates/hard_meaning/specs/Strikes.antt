@@ -3,7 +3,7 @@
 -- Choices: an upset strikes a thread that was made, a frame of it, by how many were entered after it, and an assigned register, by its name
 -- and side; and it flips bits below the register's width. Else it strikes nothing. A strike that counts leaves its number with what
 -- it struck: with the transaction inside, which forgets it when it aborts, and with the thread outside.
-use Rattle.std.specs.Prelude.{ℕ, zero, suc, ◌%◌, ◌^◌, nat_eq, bit_xor, Bool, true, false, ◌&&◌, List, [], ◌∷◌, ◌++◌, length, Option, Some, None, slice_get, slice_set}
+use Rattle.std.specs.Prelude.{ℕ, zero, suc, nat_eq, Bool, true, false, ◌&&◌, List, [], ◌∷◌, ◌++◌, length, Option, Some, None, slice_get, slice_set}
 use Rattle.std.specs.List.{position}
 use Rattle.std.specs.Option.{option_map, option_and_then}
 use Rattle.ir_core.specs.Module.{FuncParts}
@@ -19,20 +19,11 @@ use Rattle.hard_ir.specs.Hardened.{HardParts}
 use Rattle.hard_frames.specs.declared.state.Frame.{Frame}
 use Rattle.hard_frames.specs.Code.{blocks_at}
 use Rattle.hard_frames.specs.Frames.{file, with_file}
+pub use Rattle.upset_model.specs.Strikes.{strike}
 use Rattle.hard_meaning.specs.State.{Mode, Free, Inside, Worker, Upset, Nowhere, OnAnother, InWindow, Struck, State, is_inside}
 use Rattle.hard_meaning.specs.Effects.{with_worker}
 use Rattle.hard_meaning.specs.Records.{some_stands, records}
 use Rattle.hard_meaning.specs.Windows.{in_window, is_edge_checked}
-
--- ---- words
-
-abbrev pub some_unless : Bool → ℕ → Option ℕ
-some_unless true n = None
-some_unless false n = Some n
-
--- a word of a width with the mask's bits flipped, where the mask has some below the width
-abbrev pub strike : ℕ → ℕ → ℕ → Option ℕ
-strike word width mask = some_unless (nat_eq (mask % 2 ^ width) 0) (bit_xor word (mask % 2 ^ width))
 
 -- ---- places
 
