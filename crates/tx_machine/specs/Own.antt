@@ -11,6 +11,8 @@ use Rattle.hard_frames.specs.declared.outcome.Aborts.{Aborts}
 use Rattle.hard_frames.specs.declared.state.Frame.{Frame}
 use Rattle.tx_runtime.specs.declared.words.Act.{Act}
 use Rattle.tx_runtime.specs.declared.words.Act.TheVariants.{Nothing, Xbegin, Xend}
+use Rattle.tx_runtime.specs.declared.words.Mode as runtime
+use Rattle.tx_runtime.specs.declared.words.Mode.TheVariants.{Out, In, Plain}
 use Rattle.tx_runtime.specs.Words.{WordsParts, opening_words, at_stake, begin_act, begun, undone}
 use Rattle.hard_meaning.specs.Aborts as meaning
 use Rattle.hard_meaning.specs.State.{no_aborts}
@@ -56,6 +58,11 @@ begun_as Xend w = record w { words = begun w.words }
 abbrev pub once_begun : OwnParts → OwnParts
 once_begun w = begun_as (begin_act w.words) w
 
--- its transaction is aborted, and these frames run again
+-- its transaction is aborted, and these frames run again; a thread that isn't inside is not aborted
+abbrev pub undone_in : runtime.Mode → meaning.Status → CallStack Frame → OwnParts → OwnParts
+undone_in Out status kept w = w
+undone_in Plain status kept w = w
+undone_in In status kept w = record w { thread = Running kept; words = undone w.words; aborts = meaning.counted status w.aborts }
+
 abbrev pub once_undone : meaning.Status → CallStack Frame → OwnParts → OwnParts
-once_undone status kept w = record w { thread = Running kept; words = undone w.words; aborts = meaning.counted status w.aborts }
+once_undone status kept w = undone_in w.words.mode status kept w

@@ -1,7 +1,6 @@
 //! Threads, each with what an abort of it changes.
 ghost use Rattle.std.specs.Prelude.{◌≡◌, suc, IfOk, OnOk, OnErr};
 ghost use Rattle.hard_meaning.specs.Aborts.{status_word, counted};
-ghost use Rattle.tx_runtime.specs.declared.words.Mode.TheVariants.{In};
 ghost use Rattle.tx_runtime.specs.Words.{begin_act};
 ghost use Rattle.tx_machine.specs.Own.{meant, new_own, once_begun, once_undone};
 
@@ -10,7 +9,7 @@ use hard_frames::{Aborts, Frame};
 use process::{CallStack, Thread};
 use std::alloc::{AllocError, Global};
 use std::marker::Model;
-use tx_runtime::{Act, Words};
+use tx_runtime::{Act, Mode, Words};
 
 /// Why a transaction is aborted.
 #[derive(Clone, Copy, PartialEq, Eq)]
@@ -120,11 +119,14 @@ impl Worker {
         Ok(act)
     }
 
-    /// Its transaction is aborted, and these frames run again.
+    /// Its transaction is aborted, and these frames run again. A thread that isn't inside is not aborted.
     pub(crate) fn undo(&mut self, kept: CallStack<Frame>, status: Status)
-        requires { self.old.words.mode ≡ In }
         ensures { self.new ≡ once_undone (meant status) kept self.old }
     {
+        match self.words.mode() {
+            Mode::Out | Mode::Plain => return,
+            Mode::In => {}
+        }
         self.thread = Thread::Running(kept);
         self.words.undone();
         match status {
