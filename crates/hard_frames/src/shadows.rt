@@ -21,7 +21,7 @@ use std::mem;
 
 /// The shadows' registers. What phis gave them is due until they are used next: so a branch gives both sides their words, or for want
 /// of memory neither. Contracts see the registers once they have what is due.
-#[derive(Clone, Drop)]
+#[derive(Drop)]
 pub struct Shadows {
     registers: Registers,
     due: Vec<(Loc, u64)>,
@@ -34,6 +34,16 @@ impl Model for Shadows {
     ghost Value = { List (Option ℕ) };
 
     ghost view = { λ s. all_assigned s.due.items s.registers };
+}
+
+impl Clone for Shadows {
+    ghost is_clone = { λ shadows copy. copy ≡ shadows };
+
+    fn clone(&self) -> Result<Shadows, AllocError> {
+        let registers = self.registers.clone()?;
+        let due = self.due.clone()?;
+        Ok(Shadows { registers, due })
+    }
 }
 
 // The registers have what is due.

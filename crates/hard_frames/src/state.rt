@@ -14,7 +14,7 @@ use std::alloc::{AllocError, Global};
 
 /// A function at work: its place, two copies of its registers, the stack mark at its start, and the register that waits for the
 /// function that it called. A place is the numbers of a function and of a block, and an index in the block's list.
-#[derive(Clone, Drop)]
+#[derive(Drop)]
 pub struct Frame {
     pub function: usize,
     pub block: usize,
@@ -23,6 +23,24 @@ pub struct Frame {
     pub shadows: Shadows,
     pub mark: u64,
     pub waiting: Option<(Side, Loc)>,
+}
+
+impl Clone for Frame {
+    ghost is_clone = { λ frame copy. copy ≡ frame };
+
+    fn clone(&self) -> Result<Frame, AllocError> {
+        let masters = self.masters.clone()?;
+        let shadows = self.shadows.clone()?;
+        Ok(Frame {
+            function: self.function,
+            block: self.block,
+            index: self.index,
+            masters,
+            shadows,
+            mark: self.mark,
+            waiting: self.waiting,
+        })
+    }
 }
 
 impl Frame {

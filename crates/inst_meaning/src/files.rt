@@ -9,7 +9,7 @@ use std::marker::Model;
 
 /// One copy of the registers of a frame: a word for each that is assigned, by number. Contracts see it as a list of optional
 /// words; a register past its end has none. A word has at most 128 bits.
-#[derive(Clone, Drop)]
+#[derive(Drop)]
 pub struct Registers {
     words: Vec<Option<u128>>,
 }
@@ -20,6 +20,15 @@ impl Model for Registers {
     ghost Value = { List (Option ℕ) };
 
     ghost view = { λ r. r.words.items };
+}
+
+impl Clone for Registers {
+    ghost is_clone = { λ registers copy. copy ≡ registers };
+
+    fn clone(&self) -> Result<Registers, AllocError> {
+        let words = self.words.clone()?;
+        Ok(Registers { words })
+    }
 }
 
 // How long a file of this length is once these words went to it.
