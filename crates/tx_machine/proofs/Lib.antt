@@ -1,2 +1,3 @@
 pub mod Joined
+pub mod Cuts
 pub mod Undone

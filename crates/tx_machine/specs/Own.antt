@@ -20,11 +20,16 @@ use Rattle.tx_runtime.specs.declared.words.Act.{Act}
 use Rattle.tx_runtime.specs.declared.words.Act.TheVariants.{Nothing, Xbegin, Xend}
 use Rattle.tx_runtime.specs.declared.words.Mode as runtime
 use Rattle.tx_runtime.specs.declared.words.Mode.TheVariants.{Out, In, Plain}
-use Rattle.tx_runtime.specs.Words.{WordsParts, opening_words, at_stake, begin_act, begun, ticked, undone}
+use Rattle.tx_runtime.specs.Words.{WordsParts, opening_words, at_stake, begin_act, begun, ended, ticked, undone}
 use Rattle.hard_meaning.specs.Aborts as meaning
 use Rattle.hard_meaning.specs.State.{no_aborts}
 use Rattle.tx_machine.specs.declared.workers.Status.{Status}
 use Rattle.tx_machine.specs.declared.workers.Status.TheVariants.{Mismatch, Locked, Conflict, Overflow, Other}
+
+-- the numbers of upsets that struck since its transaction began, and of those that no abort can undo, the last first
+pub record MarksParts : Type 0 where
+  pub struck : List ℕ
+  pub hits : List ℕ
 
 pub record OwnParts : Type 0 where
   pub thread : Thread Frame
@@ -92,6 +97,13 @@ kept_thread Ended w = None
 -- work is counted
 abbrev pub once_ticked : ℕ → OwnParts → OwnParts
 once_ticked work w = once_passed (record w { words = ticked work w.words })
+
+-- its transaction commits, or it has none: it is outside
+abbrev pub once_ended : OwnParts → OwnParts
+once_ended w = record w { words = ended w.words }
+
+abbrev pub once_committed : OwnParts → OwnParts
+once_committed w = record w { words = ended w.words; struck = []; hits = w.struck ++ w.hits }
 
 -- a turn more waits for its transaction to commit
 abbrev pub once_pending : OwnParts → OwnParts

@@ -5,7 +5,7 @@ ghost use Rattle.inst_meaning.specs.Registers.{get};
 ghost use Rattle.process.specs.code.Threads.{CanPass};
 ghost use Rattle.hard_meaning.specs.Checks.{same_word};
 ghost use Rattle.hard_meaning.specs.Aborts.{status_word};
-ghost use Rattle.tx_machine.specs.Own.{meant, new_own, once_passed, kept_thread, once_begun, once_ticked, once_pending, compared_words, compared_in, once_copied, copied_in, copied_thread, once_undone};
+ghost use Rattle.tx_machine.specs.Own.{meant, new_own, once_passed, kept_thread, once_begun, once_ticked, once_ended, once_committed, once_pending, compared_words, compared_in, once_copied, copied_in, copied_thread, once_undone};
 
 use crate::marks::Marks;
 use hard_frames::{Aborts, Frame};
@@ -93,8 +93,7 @@ pub(crate) struct Worker {
     pub(crate) aborts: Aborts,
     pub(crate) begun: u64,
     pub(crate) pending: u64,
-    pub(crate) struck: Marks,
-    pub(crate) hits: Marks,
+    pub(crate) marks: Marks,
 }
 
 impl Model for Worker {
@@ -108,8 +107,8 @@ impl Model for Worker {
       aborts = w.aborts;
       begun = w.begun;
       pending = w.pending;
-      struck = w.struck;
-      hits = w.hits;
+      struck = w.marks.struck;
+      hits = w.marks.hits;
     } };
 
     ghost invariant = { λ w. AreCounted (record {
@@ -118,8 +117,8 @@ impl Model for Worker {
       aborts = w.aborts;
       begun = w.begun;
       pending = w.pending;
-      struck = w.struck;
-      hits = w.hits;
+      struck = w.marks.struck;
+      hits = w.marks.hits;
     }) };
 }
 
@@ -139,8 +138,7 @@ impl Worker {
             },
             begun: 0,
             pending: 0,
-            struck: Marks::new(alloc),
-            hits: Marks::new(alloc),
+            marks: Marks::new(alloc),
         }
     }
 
@@ -174,7 +172,7 @@ impl Worker {
             Act::Xbegin => {
                 self.begun = begun;
                 self.pending = 0;
-                self.struck.clear();
+                self.marks.forget();
                 Ok(Some(kept))
             }
             Act::Nothing | Act::Xend => Ok(None),
@@ -188,6 +186,21 @@ impl Worker {
     {
         self.words.tick(work);
         self.pass();
+    }
+
+    /// It is outside, and has no transaction to end.
+    pub(crate) fn end(&mut self)
+        ensures { self.new ≡ once_ended self.old }
+    {
+        self.words.end();
+    }
+
+    /// Its transaction commits.
+    pub(crate) fn commit(&mut self)
+        ensures { self.new ≡ once_committed self.old }
+    {
+        self.words.end();
+        self.marks.commit();
     }
 
     /// One turn more waits for its transaction to commit; 2^64 are past all memory.
