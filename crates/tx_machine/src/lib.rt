@@ -3,5 +3,6 @@
 //! Definitions: those of `hard_meaning`. How the code keeps a thread stands in `specs/Own.antt`.
 #![tactic(auto)]
 
+mod core;
 mod marks;
 mod workers;

@@ -1,0 +1,171 @@
+-- All that runs, part by part, and what the machine's steps do to it, as the code does them.
+use Rattle.std.specs.Prelude.{ℕ, ◌+◌, ◌<◌, ◌^◌, Bool, true, false, not, List, [], ◌∷◌, ◌++◌, Option, Some, None, replicate, slice_get, slice_set}
+use Rattle.std.specs.Option.{option_map, option_map_or, is_some}
+use Rattle.ir_core.specs.declared.types.Tid.{Tid}
+use Rattle.ir_core.specs.declared.types.Ty.{Ty}
+use Rattle.ir_core.specs.declared.types.Loc.{Loc}
+use Rattle.inst_meaning.specs.World.{WorldParts}
+use Rattle.process.specs.declared.state.CallStack.{CallStack}
+use Rattle.process.specs.declared.state.Thread.{Thread}
+use Rattle.process.specs.declared.state.Thread.TheVariants.{Running, Exiting, Ended}
+use Rattle.process.specs.code.Threads.{CanPassAt}
+use Rattle.hard_ir.specs.declared.instruction.When.{When}
+use Rattle.hard_ir.specs.Hardened.{HardParts}
+use Rattle.hard_frames.specs.declared.outcome.Stop.{Stop}
+use Rattle.hard_frames.specs.declared.outcome.Stop.TheVariants.{Fail, Trap}
+use Rattle.hard_frames.specs.declared.state.Frame.{Frame}
+use Rattle.hard_frames.specs.Places.{place_text}
+use Rattle.elide.specs.Watches.{WatchParts, nothing_watched, watch_of, is_some_held}
+use Rattle.tx_runtime.specs.Words.{cuts}
+use Rattle.rtm_core.specs.Transactions.{Transaction, RtmParts, thread, begun, committed, aborted}
+use Rattle.hard_meaning.specs.Aborts.{Status, Mismatch, Locked, Conflict, Overflow, Other}
+use Rattle.hard_meaning.specs.Checks.{is_active}
+use Rattle.tx_machine.specs.Own.{OwnParts, once_passed, once_begun, kept_thread, once_ticked, once_ended, once_committed, once_undone, compared_in, copied_in, copied_thread}
+
+pub record CoreParts : Type 0 where
+  pub program : HardParts
+  pub rtm : RtmParts (CallStack Frame)
+  pub watches : List WatchParts
+  pub own : List OwnParts
+  pub world : WorldParts
+  pub turns : List ℕ
+  pub stop : Option Stop
+
+-- ---- one thread
+
+-- a thread that was made becomes another
+abbrev pub own_with : ℕ → (OwnParts → OwnParts) → List OwnParts → List OwnParts
+own_with t f ws = option_map_or (λ w. slice_set ws t (f w)) (slice_get ws t) ws
+
+abbrev pub with_own : ℕ → (OwnParts → OwnParts) → CoreParts → CoreParts
+with_own t f p = record p { own = own_with t f p.own }
+
+abbrev pub is_open : CoreParts → ℕ → Bool
+is_open p t = is_some (thread p.rtm t)
+
+-- its place has another after it
+abbrev pub CanPassIn : CoreParts → ℕ → Type 0
+CanPassIn p t = CanPassAt (λ frame. frame.index + 1 < 2 ^ 64) (option_map (λ (w : OwnParts). w.thread) (slice_get p.own t))
+
+-- ---- aborts
+
+abbrev pub aborted_as : Option (Transaction (CallStack Frame)) → Status → ℕ → CoreParts → CoreParts
+aborted_as None status t p = p
+aborted_as (Some tx) status t p = record p {
+  rtm = aborted p.rtm t;
+  watches = slice_set p.watches t nothing_watched;
+  own = own_with t (once_undone status tx.kept) p.own;
+}
+
+abbrev pub core_aborted : Status → ℕ → CoreParts → CoreParts
+core_aborted status t p = aborted_as (thread p.rtm t) status t p
+
+-- the place of a thread
+abbrev pub place_of : HardParts → Thread Frame → List ℕ
+place_of h (Running stack) = place_text h stack.frame
+place_of h (Exiting n) = []
+place_of h Ended = []
+
+abbrev pub place_in : CoreParts → ℕ → List ℕ
+place_in p t = option_map_or (λ (w : OwnParts). place_of p.program w.thread) (slice_get p.own t) []
+
+abbrev pub halted_if : Bool → Status → Stop → ℕ → CoreParts → CoreParts
+halted_if true status stop t p = core_aborted status t p
+halted_if false status stop t p = record p { stop = Some stop }
+
+abbrev pub core_failed : ℕ → CoreParts → CoreParts
+core_failed t p = halted_if (is_open p t) Mismatch (Fail (record { 0 = t }) (place_in p t)) t p
+
+abbrev pub core_trapped : ℕ → CoreParts → CoreParts
+core_trapped t p = halted_if (is_open p t) Other (Trap (record { 0 = t }) (place_in p t)) t p
+
+-- ---- begin, end and cut
+
+abbrev pub begun_with : Option (CallStack Frame) → ℕ → CoreParts → CoreParts
+begun_with None t p = with_own t once_begun p
+begun_with (Some kept) t p = record p {
+  rtm = begun p.rtm t kept;
+  watches = slice_set p.watches t nothing_watched;
+  own = own_with t once_begun p.own;
+}
+
+abbrev pub kept_in : CoreParts → ℕ → Option (CallStack Frame)
+kept_in p t = option_map_or (λ (w : OwnParts). kept_thread w.thread w) (slice_get p.own t) None
+
+abbrev pub core_begun : ℕ → CoreParts → CoreParts
+core_begun t p = begun_with (kept_in p t) t p
+
+abbrev pub pending_in : CoreParts → ℕ → ℕ
+pending_in p t = option_map_or (λ (w : OwnParts). w.pending) (slice_get p.own t) 0
+
+-- a transaction commits, unless it holds a mutex; then it is aborted
+abbrev pub closed_if : Bool → ℕ → CoreParts → CoreParts
+closed_if true t p = core_aborted Locked t p
+closed_if false t p = record p {
+  rtm = committed p.rtm t;
+  watches = slice_set p.watches t nothing_watched;
+  own = own_with t once_committed p.own;
+  turns = p.turns ++ replicate (pending_in p t) t;
+}
+
+abbrev pub is_holding : CoreParts → ℕ → Bool
+is_holding p t = is_some_held (watch_of p.watches t).held
+
+abbrev pub closed_by : Bool → ℕ → CoreParts → CoreParts
+closed_by true t p = closed_if (is_holding p t) t p
+closed_by false t p = with_own t once_ended p
+
+abbrev pub core_closed : ℕ → CoreParts → CoreParts
+core_closed t p = closed_by (is_open p t) t p
+
+-- whether it goes on from there
+abbrev pub can_if : Bool → Bool → Bool
+can_if true holds = not holds
+can_if false holds = true
+
+abbrev pub can_close : CoreParts → ℕ → Bool
+can_close p t = can_if (is_open p t) (is_holding p t)
+
+abbrev pub passed_if : Bool → ℕ → CoreParts → CoreParts
+passed_if true t p = with_own t once_passed p
+passed_if false t p = p
+
+abbrev pub core_ended : ℕ → CoreParts → CoreParts
+core_ended t p = passed_if (can_close p t) t (core_closed t p)
+
+abbrev pub cuts_in : CoreParts → ℕ → Bool
+cuts_in p t = option_map_or (λ (w : OwnParts). cuts w.words) (slice_get p.own t) false
+
+abbrev pub cut_as : Bool → ℕ → CoreParts → CoreParts
+cut_as true t p = core_ended t p
+cut_as false t p = with_own t once_passed p
+
+abbrev pub core_cut : ℕ → CoreParts → CoreParts
+core_cut t p = cut_as (cuts_in p t) t p
+
+-- ---- checks and copies of registers
+
+abbrev pub agreed_as : Option Bool → ℕ → CoreParts → CoreParts
+agreed_as None t p = core_trapped t p
+agreed_as (Some true) t p = with_own t once_passed p
+agreed_as (Some false) t p = core_failed t p
+
+abbrev pub compared_at : CoreParts → ℕ → Ty → Loc → Option Bool
+compared_at p t ty reg = option_map_or (λ (w : OwnParts). compared_in w.thread ty reg) (slice_get p.own t) None
+
+abbrev pub checked_as : Bool → ℕ → Ty → Loc → CoreParts → CoreParts
+checked_as true t ty reg p = agreed_as (compared_at p t ty reg) t p
+checked_as false t ty reg p = with_own t once_passed p
+
+abbrev pub core_checked : When → Ty → Loc → ℕ → CoreParts → CoreParts
+core_checked when ty reg t p = checked_as (is_active when (is_open p t)) t ty reg p
+
+abbrev pub copied_at : CoreParts → ℕ → Loc → Option ℕ
+copied_at p t reg = option_map_or (λ (w : OwnParts). copied_in w.thread reg) (slice_get p.own t) None
+
+abbrev pub copied_as : Bool → Loc → ℕ → CoreParts → CoreParts
+copied_as true reg t p = with_own t (λ w. record w { thread = copied_thread w.thread reg }) p
+copied_as false reg t p = core_trapped t p
+
+abbrev pub core_copied : Loc → ℕ → CoreParts → CoreParts
+core_copied reg t p = copied_as (is_some (copied_at p t reg)) reg t p
