@@ -1,5 +1,5 @@
 -- All that runs, part by part, and what the machine's steps do to it, as the code does them.
-use Rattle.std.specs.Prelude.{ℕ, ◌+◌, ◌<◌, ◌^◌, Bool, true, false, not, List, [], ◌∷◌, ◌++◌, Option, Some, None, replicate, slice_get, slice_set}
+use Rattle.std.specs.Prelude.{ℕ, ◌+◌, ◌<◌, ◌^◌, ◌≡◌, OnSome, Bool, true, false, not, List, [], ◌∷◌, ◌++◌, Option, Some, None, replicate, slice_get, slice_set}
 use Rattle.std.specs.Option.{option_map, option_map_or, is_some}
 use Rattle.ir_core.specs.declared.types.Tid.{Tid}
 use Rattle.ir_core.specs.declared.types.Ty.{Ty}
@@ -92,6 +92,10 @@ begun_with (Some kept) t p = record p {
 abbrev pub kept_in : CoreParts → ℕ → Option (CallStack Frame)
 kept_in p t = option_map_or (λ (w : OwnParts). kept_thread w.thread w) (slice_get p.own t) None
 
+-- where a transaction begins, none is open
+abbrev pub BeginsOutside : CoreParts → ℕ → Type 0
+BeginsOutside p t = OnSome (kept_in p t) (is_open p t ≡ false)
+
 abbrev pub core_begun : ℕ → CoreParts → CoreParts
 core_begun t p = begun_with (kept_in p t) t p
 
@@ -163,8 +167,12 @@ core_checked when ty reg t p = checked_as (is_active when (is_open p t)) t ty re
 abbrev pub copied_at : CoreParts → ℕ → Loc → Option ℕ
 copied_at p t reg = option_map_or (λ (w : OwnParts). copied_in w.thread reg) (slice_get p.own t) None
 
+-- a thread whose master has no word stays
+abbrev pub once_copied_at : Loc → ℕ → CoreParts → CoreParts
+once_copied_at reg t p = with_own t (λ w. record w { thread = copied_thread w.thread reg }) p
+
 abbrev pub copied_as : Bool → Loc → ℕ → CoreParts → CoreParts
-copied_as true reg t p = with_own t (λ w. record w { thread = copied_thread w.thread reg }) p
+copied_as true reg t p = once_copied_at reg t p
 copied_as false reg t p = core_trapped t p
 
 abbrev pub core_copied : Loc → ℕ → CoreParts → CoreParts

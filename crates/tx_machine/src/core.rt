@@ -1,8 +1,9 @@
 //! All that runs, part by part.
 ghost use Rattle.std.specs.Prelude.{◌≡◌, ◌+◌, ◌<◌, ◌^◌, length, slice_get, IfOk, OnOk, OnErr};
-ghost use Rattle.process.specs.code.Threads.{CanPass};
+ghost use Rattle.std.specs.Option.{is_some};
 ghost use Rattle.tx_machine.specs.Own.{meant, once_passed, once_ticked};
-ghost use Rattle.tx_machine.specs.Core.{CanPassIn, with_own, is_open, place_in, core_aborted, core_failed, core_trapped, core_begun, core_closed, can_close, core_ended, core_cut, core_checked, core_copied};
+ghost use Rattle.hard_meaning.specs.Checks.{is_active};
+ghost use Rattle.tx_machine.specs.Core.{CanPassIn, BeginsOutside, with_own, is_open, place_in, core_aborted, core_failed, core_trapped, core_begun, core_closed, can_close, core_ended, core_cut, compared_at, core_checked, copied_at, once_copied_at, core_copied};
 
 use crate::workers::{Status, Worker};
 use elide::Elision;
@@ -120,5 +121,143 @@ impl<'a> Core<'a> {
         ensures { self.new ≡ with_own t.0 once_passed self.old }
     {
         self.workers[t.0 as usize].pass();
+    }
+
+    // A thread passes a `begin`.
+    fn begin(&mut self, t: Tid) -> Result<(), AllocError>
+        requires made { t.0 < length self.old.own }
+        requires pass { CanPassIn self.old t.0 }
+        requires outside { BeginsOutside self.old t.0 }
+        ensures ok { OnOk result (self.new ≡ core_begun t.0 self.old) }
+        ensures err { OnErr result (self.new ≡ self.old) }
+    {
+        if let Some(kept) = self.workers[t.0 as usize].begin()? {
+            self.rtm.xbegin(t, kept);
+            self.elision.clear(t);
+        }
+        Ok(())
+    }
+
+    // The work of a thread is counted, and it passes its instruction.
+    fn tick(&mut self, t: Tid, work: u32)
+        requires made { t.0 < length self.old.own }
+        requires pass { CanPassIn self.old t.0 }
+        ensures { self.new ≡ with_own t.0 (once_ticked work) self.old }
+    {
+        self.workers[t.0 as usize].tick(work);
+    }
+
+    // Ends the transaction of a thread, where it has one. The answer is `false` exactly where it is aborted, since it holds a mutex. For want of memory
+    // nothing changes.
+    fn close(&mut self, t: Tid) -> Result<bool, AllocError>
+        requires { t.0 < length self.old.own }
+        ensures can { IfOk result (λ can. can ≡ can_close self.old t.0) }
+        ensures ok { OnOk result (self.new ≡ core_closed t.0 self.old) }
+        ensures err { OnErr result (self.new ≡ self.old) }
+    {
+        let place = t.0 as usize;
+        if !self.rtm.xtest(t) {
+            self.workers[place].end();
+            return Ok(true);
+        }
+        if self.elision.holds(t) {
+            self.abort(t, Status::Locked);
+            return Ok(false);
+        }
+        self.turns.push_run(t, self.workers[place].pending)?;
+        drop(self.rtm.xend(t));
+        self.elision.clear(t);
+        self.workers[place].commit();
+        Ok(true)
+    }
+
+    // Ends the transaction of a thread, which goes on to its next instruction unless it is aborted.
+    fn end(&mut self, t: Tid) -> Result<(), AllocError>
+        requires made { t.0 < length self.old.own }
+        requires pass { CanPassIn self.old t.0 }
+        ensures ok { OnOk result (self.new ≡ core_ended t.0 self.old) }
+        ensures err { OnErr result (self.new ≡ self.old) }
+    {
+        if self.close(t)? {
+            self.pass(t);
+        }
+        Ok(())
+    }
+
+    // Does as `end` where enough work was counted; else the thread goes on.
+    fn cut(&mut self, t: Tid) -> Result<(), AllocError>
+        requires made { t.0 < length self.old.own }
+        requires pass { CanPassIn self.old t.0 }
+        ensures ok { OnOk result (self.new ≡ core_cut t.0 self.old) }
+        ensures err { OnErr result (self.new ≡ self.old) }
+    {
+        if self.workers[t.0 as usize].words.cuts() {
+            return self.end(t);
+        }
+        self.pass(t);
+        Ok(())
+    }
+
+    // Whether a check compares for a thread.
+    fn compares(&self, t: Tid, when: When) -> bool
+        requires { t.0 < length self.now.own }
+        ensures { result ≡ is_active when (is_open self.now t.0) }
+    {
+        match when {
+            When::Always => true,
+            When::Plain => !self.rtm.xtest(t),
+            When::Tx => self.rtm.xtest(t),
+        }
+    }
+
+    // Whether both sides of a register have the same word of a type, where both have one.
+    fn compare(&mut self, t: Tid, ty: &Ty, reg: Loc) -> Result<Option<bool>, AllocError>
+        requires { t.0 < length self.old.own }
+        ensures same_word { IfOk result (λ same. same ≡ compared_at self.old t.0 ty.now reg) }
+        ensures unchanged { self.new ≡ self.old }
+    {
+        self.workers[t.0 as usize].compare(ty, reg)
+    }
+
+    // A check of a register.
+    fn check(&mut self, t: Tid, when: When, ty: &Ty, reg: Loc) -> Result<(), AllocError>
+        requires made { t.0 < length self.old.own }
+        requires pass { CanPassIn self.old t.0 }
+        ensures ok { OnOk result (self.new ≡ core_checked when ty.now reg t.0 self.old) }
+        ensures err { OnErr result (self.new ≡ self.old) }
+    {
+        if !self.compares(t, when) {
+            self.pass(t);
+            return Ok(());
+        }
+        match self.compare(t, ty, reg)? {
+            None => self.trap(t),
+            Some(false) => self.fail(t),
+            Some(true) => {
+                self.pass(t);
+                Ok(())
+            }
+        }
+    }
+
+    // Whether the master of a register has a word.
+    fn has_word(&self, t: Tid, reg: Loc) -> bool
+        requires { t.0 < length self.now.own }
+        ensures { result ≡ is_some (copied_at self.now t.0 reg) }
+    {
+        self.workers[t.0 as usize].has_word(reg)
+    }
+
+    // The shadow of a register becomes its master.
+    fn copy(&mut self, t: Tid, reg: Loc) -> Result<(), AllocError>
+        requires made { t.0 < length self.old.own }
+        requires pass { CanPassIn self.old t.0 }
+        ensures ok { OnOk result (self.new ≡ core_copied reg t.0 self.old) }
+        ensures err { OnErr result (self.new ≡ self.old) }
+    {
+        if !self.has_word(t, reg) {
+            return self.trap(t);
+        }
+        self.workers[t.0 as usize].copy(reg)
     }
 }

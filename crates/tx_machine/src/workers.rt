@@ -67,21 +67,17 @@ fn compare(frame: &mut Frame, ty: &Ty, reg: Loc) -> Result<Option<bool>, AllocEr
     Ok(Some(same_word(ty, master, shadow)))
 }
 
-// The shadow of a register becomes its master, and the frame passes its instruction; `false` exactly where the master has no word.
-fn copy(frame: &mut Frame, reg: Loc) -> Result<bool, AllocError>
+// The shadow of a register becomes its master where that has a word, and the frame passes its instruction.
+fn copy(frame: &mut Frame, reg: Loc) -> Result<(), AllocError>
     requires { frame.old.index + 1 < 2 ^ 64 }
-    ensures can { IfOk result (λ can. can ≡ is_some (get frame.old.masters reg.0)) }
     ensures ok { OnOk result (frame.new ≡ once_copied (get frame.old.masters reg.0) reg frame.old) }
     ensures err { OnErr result (frame.new ≡ frame.old) }
 {
-    match frame.masters.get(reg) {
-        Some(word) => {
-            frame.shadows.assign(Some(reg), word)?;
-            frame.index += 1;
-            Ok(true)
-        }
-        None => Ok(false),
+    if let Some(word) = frame.masters.get(reg) {
+        frame.shadows.assign(Some(reg), word)?;
+        frame.index += 1;
     }
+    Ok(())
 }
 
 /// A thread, the runtime's words of it, its aborts by cause, how many transactions it has begun, and the upsets in it that no abort can undo.
@@ -226,17 +222,26 @@ impl Worker {
         }
     }
 
-    /// The shadow of a register becomes its master, and the thread passes its instruction. The answer is `false` exactly where the master has
-    /// no word; then, and for want of memory, nothing changes.
-    pub(crate) fn copy(&mut self, reg: Loc) -> Result<bool, AllocError>
+    /// Whether the master of a register has a word.
+    pub(crate) fn has_word(&self, reg: Loc) -> bool
+        ensures { result ≡ is_some (copied_in self.now.thread reg) }
+    {
+        match &self.thread {
+            Thread::Running(stack) => stack.frame.masters.get(reg).is_some(),
+            Thread::Exiting(_) | Thread::Ended => false,
+        }
+    }
+
+    /// The shadow of a register becomes its master where that has a word, and the thread passes its instruction. For want of memory nothing
+    /// changes.
+    pub(crate) fn copy(&mut self, reg: Loc) -> Result<(), AllocError>
         requires { CanPass (λ frame. frame.index + 1 < 2 ^ 64) self.old.thread }
-        ensures can { IfOk result (λ can. can ≡ is_some (copied_in self.old.thread reg)) }
         ensures ok { OnOk result (self.new ≡ record self.old { thread = copied_thread self.old.thread reg }) }
         ensures err { OnErr result (self.new ≡ self.old) }
     {
         match &mut self.thread {
             Thread::Running(stack) => copy(&mut stack.frame, reg),
-            Thread::Exiting(_) | Thread::Ended => Ok(false),
+            Thread::Exiting(_) | Thread::Ended => Ok(()),
         }
     }
 
