@@ -3,7 +3,7 @@
 --
 -- Choices: what is watched and held changes as lock elision's own table says. A transaction can lock one that has no owner and that it doesn't hold, and unlock one that it holds.
 -- A call that can't be done so ends the transaction, keeps its place, and is done outside at a later turn.
-use Rattle.std.specs.Prelude.{ℕ, Bool, not, ◌&&◌, List, ◌∷◌, Option, Some, None}
+use Rattle.std.specs.Prelude.{ℕ, Bool, not, ◌&&◌, ◌∷◌, Option, Some, None}
 use Rattle.std.specs.Option.{is_none}
 use Rattle.line_sets.specs.Sets.{has, with_member, takes}
 pub use Rattle.elide.specs.Watches.{watch_limit, without}

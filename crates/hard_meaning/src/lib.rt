@@ -2,7 +2,7 @@
 //!
 //! The state (`specs/State.antt`), aborts (`Aborts.antt`), effects of an action (`Effects.antt`), the runtime (`Runtime.antt`), mutexes
 //! inside transactions (`Locks.antt`), checks (`Checks.antt`), a turn (`Turns.antt`); windows (`Windows.antt`), strikes (`Strikes.antt`) and
-//! records of upsets (`Records.antt`); runs over the events of a schedule (`Runs.antt`). Nothing of it is code yet but runs of samples, which
+//! records of upsets (`Records.antt`), over those of `upset_model`; runs over the events of a schedule (`Runs.antt`). Nothing of it is code yet but runs of samples, which
 //! are computed. docs/MACHINE.md goes through the machine rule by rule.
 #![tactic(auto)]
 

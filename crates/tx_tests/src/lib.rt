@@ -1,7 +1,9 @@
-//! Tests of transactions by themselves: sets of lines, and memory under transactions. No program goes by them yet.
+//! Tests of transactions and upsets by themselves: sets of lines, memory under transactions, windows and strikes. No program goes by them yet.
 #![tactic(auto)]
 
 #[cfg(test)]
 mod memories;
 #[cfg(test)]
 mod sets;
+#[cfg(test)]
+mod upsets;

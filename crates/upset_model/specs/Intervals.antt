@@ -7,7 +7,7 @@ use Rattle.std.specs.List.{list_any}
 use Rattle.std.specs.Option.{option_or}
 use Rattle.ir_core.specs.declared.types.Loc.{Loc}
 use Rattle.ir_core.specs.declared.values.Side.{Side}
-use Rattle.ir_core.specs.declared.values.Side.TheVariants.{M, S}
+use Rattle.ir_core.specs.declared.values.Side.TheVariants.{M}
 use Rattle.ir_core.specs.declared.instruction.Inst.{Inst}
 use Rattle.ir_core.specs.declared.instruction.Inst.TheVariants as insts
 use Rattle.ir_flow.specs.Uses.{regs_in}

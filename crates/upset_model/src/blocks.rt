@@ -66,10 +66,7 @@ impl Interval {
     fn holds(&self, r: HReg, inside: bool, q: u32) -> bool
         ensures { result ≡ holds r inside q self.now }
     {
-        same_reg(r, self.reg)
-            && same_mode(inside, self.inside)
-            && self.from <= q
-            && q <= self.until
+        same_reg(r, self.reg) && same_mode(inside, self.inside) && self.from <= q && q <= self.until
     }
 }
 

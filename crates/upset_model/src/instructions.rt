@@ -9,8 +9,8 @@ use hard_ir::{HInst, HReg, HVal, When};
 use ir_core::{Inst, Loc, Side, Ty, Val, Width};
 use std::alloc::{AllocError, Global};
 
-// Whether two sides are the same.
-fn same_side(a: Side, b: Side) -> bool
+/// Whether two sides are the same.
+pub(crate) fn same_side(a: Side, b: Side) -> bool
     ensures { result ≡ same_side a b }
 {
     match a {
@@ -69,11 +69,7 @@ pub(crate) fn is_between(inst: &HInst) -> bool
 {
     match inst {
         HInst::End | HInst::Chk { .. } | HInst::ChkMem { .. } => true,
-        HInst::Cut
-        | HInst::Begin
-        | HInst::Tick(_)
-        | HInst::Mov { .. }
-        | HInst::Do { .. } => false,
+        HInst::Cut | HInst::Begin | HInst::Tick(_) | HInst::Mov { .. } | HInst::Do { .. } => false,
     }
 }
 
@@ -233,9 +229,7 @@ pub(crate) fn uses(inst: &HInst, r: HReg, inside: bool, checked: bool) -> bool
 {
     match inst {
         HInst::Do { side, inst, .. } => {
-            is_effect(inst, inside, checked)
-                && same_side(r.side, *side)
-                && reads(inst, r.loc)
+            is_effect(inst, inside, checked) && same_side(r.side, *side) && reads(inst, r.loc)
         }
         HInst::Cut
         | HInst::Begin

@@ -5,12 +5,17 @@
 #![tactic(auto)]
 
 mod blocks;
+mod edges;
 mod instructions;
+mod labels;
 mod records;
 mod strikes;
+mod table;
 mod windows;
 
 pub use blocks::Interval;
+pub use edges::edge_checked;
 pub use records::{Record, Records};
 pub use strikes::strike;
+pub use table::WindowTable;
 pub use windows::in_window;

@@ -1,0 +1,3 @@
+mod GuardLaws
+mod IntervalLaws
+mod TableLaws
