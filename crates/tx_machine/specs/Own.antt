@@ -6,10 +6,16 @@
 use Rattle.std.specs.Prelude.{ℕ, suc, ◌≤◌, ◌+◌, Bool, true, false, List, [], ◌++◌, Option, Some, None}
 use Rattle.ir_core.specs.declared.types.Ty.{Ty}
 use Rattle.ir_core.specs.declared.types.Loc.{Loc}
+use Rattle.ir_core.specs.declared.values.Side.{Side}
 use Rattle.ir_core.specs.declared.values.Side.TheVariants.{S}
+use Rattle.inst_meaning.specs.declared.actions.Action.{Action}
+use Rattle.inst_meaning.specs.declared.actions.Cause.{Cause}
 use Rattle.inst_meaning.specs.Registers.{get}
 use Rattle.process.specs.State.{in_frame}
-use Rattle.hard_frames.specs.Frames.{passed, resulted}
+use Rattle.process.specs.Outcome.{failure, thread_after}
+use Rattle.process.specs.code.Moves.{where_done}
+use Rattle.hard_ir.specs.Hardened.{HardParts}
+use Rattle.hard_frames.specs.Frames.{frames, passed, resulted}
 use Rattle.hard_meaning.specs.Checks.{same_word}
 use Rattle.process.specs.declared.state.CallStack.{CallStack}
 use Rattle.process.specs.declared.state.Thread.{Thread}
@@ -145,3 +151,23 @@ undone_in In status kept w = record w { thread = Running kept; words = undone w.
 
 abbrev pub once_undone : meaning.Status → CallStack Frame → OwnParts → OwnParts
 once_undone status kept w = undone_in w.words.mode status kept w
+
+-- ---- actions without memory
+
+abbrev pub stack_of : Thread Frame → Option (CallStack Frame)
+stack_of (Running stack) = Some stack
+stack_of (Exiting n) = None
+stack_of Ended = None
+
+-- why a thread can't do an action, where it can't
+abbrev pub failure_in : HardParts → ℕ → Thread Frame → Action → Option Cause
+failure_in h t (Running stack) action = failure (frames h) [] t stack action
+failure_in h t (Exiting n) action = None
+failure_in h t Ended action = None
+
+-- and what it is otherwise
+abbrev pub moved_thread : HardParts → ℕ → Option (Side × Loc) → Action → Thread Frame → Thread Frame
+moved_thread h t target action (Running stack) =
+    where_done (failure (frames h) [] t stack action) (thread_after (frames h) target stack action 0) (Running stack)
+moved_thread h t target action (Exiting n) = Exiting n
+moved_thread h t target action Ended = Ended

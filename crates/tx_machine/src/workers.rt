@@ -1,17 +1,19 @@
 //! Threads, each with what an abort of it changes.
-ghost use Rattle.std.specs.Prelude.{◌≡◌, ◌+◌, ◌<◌, ◌^◌, IfOk, OnOk, OnErr};
+ghost use Rattle.std.specs.Prelude.{◌≡◌, ◌+◌, ◌<◌, ◌^◌, None, IfOk, OnOk, OnErr};
 ghost use Rattle.std.specs.Option.{is_some};
 ghost use Rattle.inst_meaning.specs.Registers.{get};
+ghost use Rattle.process.specs.Outcome.{touch_of};
 ghost use Rattle.process.specs.code.Threads.{CanPass};
 ghost use Rattle.hard_meaning.specs.Checks.{same_word};
 ghost use Rattle.hard_meaning.specs.Aborts.{status_word};
-ghost use Rattle.tx_machine.specs.Own.{meant, new_own, once_passed, kept_thread, once_begun, once_ticked, once_ended, once_committed, once_pending, compared_words, compared_in, once_copied, copied_in, copied_thread, once_undone};
+ghost use Rattle.tx_machine.specs.Own.{meant, new_own, once_passed, kept_thread, once_begun, once_ticked, once_ended, once_committed, once_pending, compared_words, compared_in, once_copied, copied_in, copied_thread, failure_in, moved_thread, once_undone};
 
 use crate::marks::Marks;
-use hard_frames::{Aborts, Frame};
+use hard_frames::{Aborts, Frame, Program, Words as Room};
 use hard_ir::register_bits;
-use ir_core::{Loc, Ty};
-use process::{CallStack, Thread};
+use inst_meaning::{Action, Cause};
+use ir_core::{Loc, Side, Tid, Ty};
+use process::{CallStack, Local, Thread};
 use std::alloc::{AllocError, Global};
 use std::marker::Model;
 use tx_runtime::{Act, Mode, Words};
@@ -219,6 +221,36 @@ impl Worker {
         match &mut self.thread {
             Thread::Running(stack) => compare(&mut stack.frame, ty, reg),
             Thread::Exiting(_) | Thread::Ended => Ok(None),
+        }
+    }
+
+    /// Does an action without memory. The answer is why it can't, where it can't; then, and for want of memory, nothing changes.
+    pub(crate) fn act(
+        &mut self,
+        alloc: Global,
+        program: &Program<'_>,
+        room: &mut Room,
+        t: Tid,
+        target: Option<(Side, Loc)>,
+        action: &Action,
+    ) -> Result<Option<Cause>, AllocError>
+        requires pass { CanPass (λ frame. frame.index + 1 < 2 ^ 64) self.old.thread }
+        requires apart { touch_of action.now ≡ None }
+        ensures cause { IfOk result (λ cause. cause ≡ failure_in program.now t.0 self.old.thread action.now) }
+        ensures ok { OnOk result (self.new ≡ record self.old { thread = moved_thread program.now t.0 target action.now self.old.thread }) }
+        ensures err { OnErr result (self.new ≡ self.old) }
+    {
+        let local = match &mut self.thread {
+            Thread::Running(stack) => stack.act_apart(alloc, program, room, t, target, action)?,
+            Thread::Exiting(_) | Thread::Ended => Local::Done,
+        };
+        match local {
+            Local::Done => Ok(None),
+            Local::Returned(word) => {
+                self.thread = Thread::Exiting(word);
+                Ok(None)
+            }
+            Local::Failed(cause) => Ok(Some(cause)),
         }
     }
 
