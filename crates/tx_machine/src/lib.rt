@@ -3,6 +3,7 @@
 //! Definitions: those of `hard_meaning`. How the code keeps a thread stands in `specs/Own.antt`.
 #![tactic(auto)]
 
+mod conflicts;
 mod core;
 mod marks;
 mod workers;
