@@ -11,7 +11,8 @@ use Rattle.tx_runtime.specs.declared.words.Mode as runtime
 use Rattle.tx_runtime.specs.declared.words.Mode.TheVariants.{Out, In, Plain}
 use Rattle.rtm_core.specs.declared.Aborted.{Aborted}
 use Rattle.rtm_core.specs.Footprint.{conflicts}
-use Rattle.rtm_core.specs.Transactions.{Transaction, kept_of, meets, strikes, none_if, spared_from, joined_if, struck_from}
+use Rattle.rtm_core.specs.Transactions.{Transaction, RtmParts, Entry, aborts_at, kept_of, meets, strikes, none_if, spared_from, joined_if, struck_from}
+use Rattle.rtm_core.specs.Transactions.Entry.{Invalid, Full, Entered}
 use Rattle.rtm_core.specs.Calls.{aborted_with, conflict_status, conflict_aborts}
 use Rattle.hard_meaning.specs.State.{Mode, Free, Inside, Worker}
 use Rattle.hard_meaning.specs.Aborts.{Conflict, Claim, aborted, is_in_the_way, aborted_if, spared}
@@ -60,6 +61,23 @@ pub below-last : (n : ℕ) (front : List (Aborted (CallStack Frame))) (a : Abort
     → AllBelow n front × (a.tid.0 < n)
 below-last n [] a all = (tt, all.0)
 below-last n (b ∷ front) a all = let rest = below-last n front a all.1 in ((all.0, rest.0), rest.1)
+
+-- those that an access aborts are threads
+below-from : (n t : ℕ) (touch : Touch) (u : ℕ) (xs : List (Option (Transaction (CallStack Frame)))) → u + length xs ≤ n → AllBelow n (conflict_aborts (struck_from t touch u xs))
+below-from n t touch u [] e = tt
+below-from n t touch u (x ∷ xs) e = by_strike (strikes t touch u x) (kept_of x) (below-from n t touch (suc u) xs (omega (arith, e)))
+  where
+    by_strike : (b : Bool) (kept : Option (CallStack Frame)) → AllBelow n (conflict_aborts (struck_from t touch (suc u) xs))
+        → AllBelow n (conflict_aborts (joined_if b u kept (struck_from t touch (suc u) xs)))
+    by_strike true (Some kept) rest = (omega (arith, e), rest)
+    by_strike true None rest = rest
+    by_strike false kept rest = rest
+
+pub below-aborts : (n : ℕ) (entry : Entry) (rtm : RtmParts (CallStack Frame)) (t : ℕ) (touch : Touch) → length rtm.threads ≡ n
+    → AllBelow n (conflict_aborts (aborts_at entry rtm t touch))
+below-aborts n Invalid rtm t touch e = tt
+below-aborts n Full rtm t touch e = tt
+below-aborts n Entered rtm t touch e = below-from n t touch 0 rtm.threads (omega (arith, e))
 
 -- ---- all at once
 

@@ -17,9 +17,12 @@ use Rattle.hard_frames.specs.declared.state.Frame.{Frame}
 use Rattle.hard_frames.specs.Places.{place_text}
 use Rattle.elide.specs.Watches.{WatchParts, nothing_watched, watch_of, is_some_held}
 use Rattle.tx_runtime.specs.Words.{cuts}
-use Rattle.rtm_core.specs.Transactions.{Transaction, RtmParts, thread, begun, committed, aborted}
+use Rattle.mem_image.specs.Touches.{Touch, Store}
+use Rattle.rtm_core.specs.Transactions.{Transaction, RtmParts, Entry, thread, begun, committed, aborted, entry_of, after, aborts_at}
+use Rattle.rtm_core.specs.Calls.{conflict_aborts}
 use Rattle.hard_meaning.specs.Aborts.{Status, Mismatch, Locked, Conflict, Overflow, Other}
 use Rattle.hard_meaning.specs.Checks.{is_active}
+use Rattle.tx_machine.specs.Undone.{own_all, watches_all}
 use Rattle.tx_machine.specs.Own.{OwnParts, once_passed, once_begun, kept_thread, once_ticked, once_ended, once_committed, once_undone, compared_in, copied_in, copied_thread}
 
 pub record CoreParts : Type 0 where
@@ -177,3 +180,16 @@ copied_as false reg t p = core_trapped t p
 
 abbrev pub core_copied : Loc → ℕ → CoreParts → CoreParts
 core_copied reg t p = copied_as (is_some (copied_at p t reg)) reg t p
+
+-- ---- accesses
+
+-- an access has come to this: it isn't valid, a list is full, or it is done, and aborts others
+abbrev pub touched_as : Entry → Touch → Option Store → ℕ → CoreParts → CoreParts
+touched_as entry touch store t p = record p {
+  rtm = after entry p.rtm t touch store;
+  watches = watches_all (conflict_aborts (aborts_at entry p.rtm t touch)) p.watches;
+  own = own_all (conflict_aborts (aborts_at entry p.rtm t touch)) p.own;
+}
+
+abbrev pub core_touched : Touch → Option Store → ℕ → CoreParts → CoreParts
+core_touched touch store t p = touched_as (entry_of p.rtm t touch) touch store t p

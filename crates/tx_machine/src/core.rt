@@ -1,18 +1,22 @@
 //! All that runs, part by part.
-ghost use Rattle.std.specs.Prelude.{◌≡◌, ◌+◌, ◌<◌, ◌^◌, length, slice_get, IfOk, OnOk, OnErr};
+ghost use Rattle.std.specs.Prelude.{◌≡◌, ◌+◌, ◌*◌, ◌<◌, ◌^◌, None, Some, length, slice_get, IfOk, OnOk, OnErr};
 ghost use Rattle.std.specs.Option.{is_some};
+ghost use Rattle.mem_image.specs.Accesses.{bytes};
+ghost use Rattle.rtm_core.specs.Calls.{reading, writing, updating, got_of};
+ghost use Rattle.rtm_core.specs.Transactions.{entry_of, word_seen};
 ghost use Rattle.tx_machine.specs.Own.{meant, once_passed, once_ticked};
 ghost use Rattle.hard_meaning.specs.Checks.{is_active};
-ghost use Rattle.tx_machine.specs.Core.{CanPassIn, BeginsOutside, with_own, is_open, place_in, core_aborted, core_failed, core_trapped, core_begun, core_closed, can_close, core_ended, core_cut, compared_at, core_checked, copied_at, once_copied_at, core_copied};
+ghost use Rattle.tx_machine.specs.Core.{CanPassIn, BeginsOutside, with_own, is_open, place_in, core_aborted, core_failed, core_trapped, core_begun, core_closed, can_close, core_ended, core_cut, compared_at, core_checked, copied_at, once_copied_at, core_copied, core_touched};
 
+use crate::conflicts::undo_each;
 use crate::workers::{Status, Worker};
 use elide::Elision;
 use hard_frames::{Frame, Program, Stop, Words as Room, place_text};
 use hard_ir::When;
-use inst_meaning::World;
+use inst_meaning::{Place, World};
 use ir_core::{Loc, Name, Tid, Ty};
 use process::{CallStack, Thread};
-use rtm_core::{Aborted, Rtm};
+use rtm_core::{Aborted, Got, Rtm};
 use std::alloc::{AllocError, Global};
 use std::marker::Model;
 use turn_runs::TurnLog;
@@ -259,5 +263,51 @@ impl<'a> Core<'a> {
             return self.trap(t);
         }
         self.workers[t.0 as usize].copy(reg)
+    }
+
+    // A thread reads memory as it sees it, and aborts those in its way.
+    fn read(&mut self, t: Tid, place: Place) -> Got
+        requires { t.0 < length self.old.own }
+        ensures got { result ≡ got_of (entry_of self.old.rtm t.0 (reading place.address (bytes place.size))) (word_seen self.old.rtm t.0 place.address (bytes place.size)) }
+        ensures parts { self.new ≡ core_touched (reading place.address (bytes place.size)) None t.0 self.old }
+    {
+        let got = self
+            .rtm
+            .read(t, place.address, place.size, &mut self.aborted)
+            .unwrap();
+        undo_each(&mut self.aborted, &mut self.workers, &mut self.elision);
+        got
+    }
+
+    // A thread writes a word to memory as it sees it, and aborts those in its way.
+    fn write(&mut self, t: Tid, place: Place, word: u64) -> Got
+        requires made { t.0 < length self.old.own }
+        requires fits { word < 2 ^ (8 * bytes place.size) }
+        ensures got { result ≡ got_of (entry_of self.old.rtm t.0 (writing place.address (bytes place.size))) word }
+        ensures parts { self.new ≡ core_touched (writing place.address (bytes place.size))
+            (Some (record { address = place.address; size = bytes place.size; word = word })) t.0 self.old }
+    {
+        let got = self
+            .rtm
+            .write(t, place.address, place.size, word, &mut self.aborted)
+            .unwrap();
+        undo_each(&mut self.aborted, &mut self.workers, &mut self.elision);
+        got
+    }
+
+    // A thread puts a word in the place of another in memory as it sees it, and aborts those in its way.
+    fn exchange(&mut self, t: Tid, place: Place, word: u64) -> Got
+        requires made { t.0 < length self.old.own }
+        requires fits { word < 2 ^ (8 * bytes place.size) }
+        ensures got { result ≡ got_of (entry_of self.old.rtm t.0 (updating place.address (bytes place.size))) (word_seen self.old.rtm t.0 place.address (bytes place.size)) }
+        ensures parts { self.new ≡ core_touched (updating place.address (bytes place.size))
+            (Some (record { address = place.address; size = bytes place.size; word = word })) t.0 self.old }
+    {
+        let got = self
+            .rtm
+            .update(t, place.address, place.size, Some(word), &mut self.aborted)
+            .unwrap();
+        undo_each(&mut self.aborted, &mut self.workers, &mut self.elision);
+        got
     }
 }

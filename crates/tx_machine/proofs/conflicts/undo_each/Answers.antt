@@ -16,8 +16,10 @@ pub loop-tid-init : goal.loop-tid-init
 loop-tid-init c = record { below = c.requires; own = refl; watches = refl; count = refl; kept = omega arith }
 
 pub clear-requires : goal.clear-requires
-clear-requires c = record { thread = (below-last thread_limit c.pop.new.self.items c.in-Some.field-0
-    (subst (λ list. AllBelow thread_limit list) c.in-Some.ensures.items c.loop-tid.invariant.below)).1 }
+clear-requires c = record {
+  thread = (below-last thread_limit c.pop.new.self.items c.in-Some.field-0
+      (subst (λ list. AllBelow thread_limit list) c.in-Some.ensures.items c.loop-tid.invariant.below)).1;
+}
 
 pub loop-tid-preserved-in-Some-get_mut : goal.loop-tid-preserved-in-Some-get_mut
 loop-tid-preserved-in-Some-get_mut c = record {
