@@ -3,6 +3,7 @@ use Rattle.std.proofs.Common.{ℕ, zero, suc, ◌≡◌, ◌≢◌, ◌∙◌, �
 use Rattle.std.specs.Option.{option_map_or}
 use Rattle.std.proofs.lemmas.Bool.{eqb-true, eq-eqb}
 use Rattle.std.proofs.lemmas.List.{length-append}
+use Rattle.ir_layout.specs.Memory.{thread_limit}
 use Rattle.mem_image.specs.Touches.{Touch}
 use Rattle.process.specs.declared.state.CallStack.{CallStack}
 use Rattle.hard_frames.specs.declared.state.Frame.{Frame}
@@ -11,14 +12,13 @@ use Rattle.tx_runtime.specs.declared.words.Mode as runtime
 use Rattle.tx_runtime.specs.declared.words.Mode.TheVariants.{Out, In, Plain}
 use Rattle.rtm_core.specs.declared.Aborted.{Aborted}
 use Rattle.rtm_core.specs.Footprint.{conflicts}
-use Rattle.rtm_core.specs.Transactions.{Transaction, RtmParts, Entry, aborts_at, kept_of, meets, strikes, none_if, spared_from, joined_if, struck_from}
-use Rattle.rtm_core.specs.Transactions.Entry.{Invalid, Full, Entered}
-use Rattle.rtm_core.specs.Calls.{aborted_with, conflict_status, conflict_aborts}
+use Rattle.rtm_core.specs.Transactions.{Transaction, kept_of, meets, strikes, none_if, spared_from, joined_if, struck_from}
+use Rattle.rtm_core.specs.Calls.{aborted_with, conflict_status, conflict_aborts, AreThreads}
 use Rattle.hard_meaning.specs.State.{Mode, Free, Inside, Worker}
 use Rattle.hard_meaning.specs.Aborts.{Conflict, Claim, aborted, is_in_the_way, aborted_if, spared}
 use Rattle.tx_machine.specs.Own.{OwnParts, once_undone, undone_in}
 use Rattle.tx_machine.specs.Joined.{mode_with, joined_one, joined}
-use Rattle.tx_machine.specs.Undone.{HeldParts, undone_own, undone_at, undone_all, own_all, watches_all, AllBelow}
+use Rattle.tx_machine.specs.Undone.{HeldParts, undone_own, undone_at, undone_all, own_all, watches_all}
 use Rattle.tx_machine.proofs.Joined.{set-joined, set-same}
 
 -- each list goes by itself
@@ -57,27 +57,10 @@ pub watches-last : (front : List (Aborted (CallStack Frame))) (a : Aborted (Call
 watches-last [] a ks = refl
 watches-last (b ∷ front) a ks = ap (λ (list : List WatchParts). slice_set list b.tid.0 nothing_watched) (watches-last front a ks)
 
-pub below-last : (n : ℕ) (front : List (Aborted (CallStack Frame))) (a : Aborted (CallStack Frame)) → AllBelow n (front ++ a ∷ [])
-    → AllBelow n front × (a.tid.0 < n)
-below-last n [] a all = (tt, all.0)
-below-last n (b ∷ front) a all = let rest = below-last n front a all.1 in ((all.0, rest.0), rest.1)
-
--- those that an access aborts are threads
-below-from : (n t : ℕ) (touch : Touch) (u : ℕ) (xs : List (Option (Transaction (CallStack Frame)))) → u + length xs ≤ n → AllBelow n (conflict_aborts (struck_from t touch u xs))
-below-from n t touch u [] e = tt
-below-from n t touch u (x ∷ xs) e = by_strike (strikes t touch u x) (kept_of x) (below-from n t touch (suc u) xs (omega (arith, e)))
-  where
-    by_strike : (b : Bool) (kept : Option (CallStack Frame)) → AllBelow n (conflict_aborts (struck_from t touch (suc u) xs))
-        → AllBelow n (conflict_aborts (joined_if b u kept (struck_from t touch (suc u) xs)))
-    by_strike true (Some kept) rest = (omega (arith, e), rest)
-    by_strike true None rest = rest
-    by_strike false kept rest = rest
-
-pub below-aborts : (n : ℕ) (entry : Entry) (rtm : RtmParts (CallStack Frame)) (t : ℕ) (touch : Touch) → length rtm.threads ≡ n
-    → AllBelow n (conflict_aborts (aborts_at entry rtm t touch))
-below-aborts n Invalid rtm t touch e = tt
-below-aborts n Full rtm t touch e = tt
-below-aborts n Entered rtm t touch e = below-from n t touch 0 rtm.threads (omega (arith, e))
+pub threads-last : (front : List (Aborted (CallStack Frame))) (a : Aborted (CallStack Frame)) → AreThreads (front ++ a ∷ [])
+    → AreThreads front × (a.tid.0 < thread_limit)
+threads-last [] a all = (tt, all.0)
+threads-last (b ∷ front) a all = let rest = threads-last front a all.1 in ((all.0, rest.0), rest.1)
 
 -- ---- all at once
 

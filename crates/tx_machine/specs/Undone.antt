@@ -1,5 +1,5 @@
 -- The threads that an access aborts, as the code goes through them: one after another, the last first.
-use Rattle.std.specs.Prelude.{ℕ, ◌<◌, List, [], ◌∷◌, slice_get, slice_set}
+use Rattle.std.specs.Prelude.{ℕ, List, [], ◌∷◌, slice_get, slice_set}
 use Rattle.std.specs.Option.{option_map_or}
 use Rattle.process.specs.declared.state.CallStack.{CallStack}
 use Rattle.hard_frames.specs.declared.state.Frame.{Frame}
@@ -32,8 +32,3 @@ own_all (a ∷ rest) ws = undone_own (own_all rest ws) a.tid.0 a.keep
 abbrev pub watches_all : List (Aborted (CallStack Frame)) → List WatchParts → List WatchParts
 watches_all [] ks = ks
 watches_all (a ∷ rest) ks = slice_set (watches_all rest ks) a.tid.0 nothing_watched
-
--- each is one of so many threads
-abbrev pub AllBelow : ℕ → List (Aborted (CallStack Frame)) → Type 0
-AllBelow n [] = Unit {0}
-AllBelow n (a ∷ rest) = (a.tid.0 < n) × AllBelow n rest

@@ -1,7 +1,7 @@
 //! Threads that another thread's action aborts.
 ghost use Rattle.std.specs.Prelude.{◌≡◌, ◌≤◌, [], length, vec_capacity};
-ghost use Rattle.ir_layout.specs.Memory.{thread_limit};
-ghost use Rattle.tx_machine.specs.Undone.{own_all, watches_all, AllBelow};
+ghost use Rattle.rtm_core.specs.Calls.{AreThreads};
+ghost use Rattle.tx_machine.specs.Undone.{own_all, watches_all};
 
 use crate::workers::{Status, Worker};
 use elide::Elision;
@@ -15,7 +15,7 @@ pub(crate) fn undo_each(
     workers: &mut Vec<Worker>,
     elision: &mut Elision,
 )
-    requires { AllBelow thread_limit aborted.old.items }
+    requires { AreThreads aborted.old.items }
     ensures own { workers.new.items ≡ own_all aborted.old.items workers.old.items }
     ensures watches { elision.new ≡ watches_all aborted.old.items elision.old }
     ensures none { aborted.new.items ≡ [] }

@@ -1,11 +1,11 @@
 use Rattle.std.proofs.Common.{ℕ, ◌≡◌, ◌∙◌, ◌<◌, List, [], ◌∷◌, ◌++◌, length, slice_set, refl, ap, sym, subst, arith}
 use Rattle.std.proofs.lemmas.List.{length-set}
-use Rattle.ir_layout.specs.Memory.{thread_limit}
+use Rattle.rtm_core.specs.Calls.{AreThreads}
 use Rattle.elide.specs.Watches.{WatchParts}
 use Rattle.rtm_core.specs.declared.Aborted.{Aborted}
 use Rattle.tx_machine.specs.Own.{OwnParts}
-use Rattle.tx_machine.specs.Undone.{own_all, watches_all, AllBelow}
-use Rattle.tx_machine.proofs.Undone.{own-last, watches-last, below-last, undone-there, undone-nowhere}
+use Rattle.tx_machine.specs.Undone.{own_all, watches_all}
+use Rattle.tx_machine.proofs.Undone.{own-last, watches-last, threads-last, undone-there, undone-nowhere}
 use Rattle.tx_machine.proofs.conflicts.undo_each.Goals as goal
 
 no-more : {A : Type 0} (xs : List A) → length xs ≡ 0 → xs ≡ []
@@ -17,13 +17,13 @@ loop-tid-init c = record { below = c.requires; own = refl; watches = refl; count
 
 pub clear-requires : goal.clear-requires
 clear-requires c = record {
-  thread = (below-last thread_limit c.pop.new.self.items c.in-Some.field-0
-      (subst (λ list. AllBelow thread_limit list) c.in-Some.ensures.items c.loop-tid.invariant.below)).1;
+  thread = (threads-last c.pop.new.self.items c.in-Some.field-0
+      (subst (λ (list : List (Aborted _)). AreThreads list) c.in-Some.ensures.items c.loop-tid.invariant.below)).1;
 }
 
 pub loop-tid-preserved-in-Some-get_mut : goal.loop-tid-preserved-in-Some-get_mut
 loop-tid-preserved-in-Some-get_mut c = record {
-  below = (below-last thread_limit c.pop.new.self.items c.in-Some.field-0 (subst (λ list. AllBelow thread_limit list) c.in-Some.ensures.items c.loop-tid.invariant.below)).0;
+  below = (threads-last c.pop.new.self.items c.in-Some.field-0 (subst (λ (list : List (Aborted _)). AreThreads list) c.in-Some.ensures.items c.loop-tid.invariant.below)).0;
   own = ap (λ (w : OwnParts). own_all c.pop.new.self.items (slice_set c.loop-tid.workers.items c.in-Some.field-0.tid.0 w)) c.undo.ensures
       ∙ ap (own_all c.pop.new.self.items) (sym (undone-there c.loop-tid.workers.items c.in-Some.field-0.tid.0 c.in-Some.field-0.keep c.in-Some-get_mut.worker.now
       (omega (arith, c.in-Some-get_mut.ensures.variant.0 refl)) c.in-Some-get_mut.ensures.value))
@@ -37,7 +37,7 @@ loop-tid-preserved-in-Some-get_mut c = record {
 
 pub loop-tid-preserved : goal.loop-tid-preserved
 loop-tid-preserved c = record {
-  below = (below-last thread_limit c.pop.new.self.items c.in-Some.field-0 (subst (λ list. AllBelow thread_limit list) c.in-Some.ensures.items c.loop-tid.invariant.below)).0;
+  below = (threads-last c.pop.new.self.items c.in-Some.field-0 (subst (λ (list : List (Aborted _)). AreThreads list) c.in-Some.ensures.items c.loop-tid.invariant.below)).0;
   own = ap (own_all c.pop.new.self.items) (sym (undone-nowhere c.loop-tid.workers.items c.in-Some.field-0.tid.0 c.in-Some.field-0.keep
       (λ within. let clash = c.in_default-get_mut.ensures.variant.1 (omega (arith, within)) in cc)))
       ∙ sym (own-last c.pop.new.self.items c.in-Some.field-0 c.loop-tid.workers.items)
