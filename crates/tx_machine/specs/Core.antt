@@ -4,6 +4,9 @@ use Rattle.std.specs.Option.{option_map, option_map_or, is_some}
 use Rattle.ir_core.specs.declared.types.Tid.{Tid}
 use Rattle.ir_core.specs.declared.types.Ty.{Ty}
 use Rattle.ir_core.specs.declared.types.Loc.{Loc}
+use Rattle.ir_core.specs.declared.values.Side.{Side}
+use Rattle.inst_meaning.specs.declared.actions.Action.{Action}
+use Rattle.inst_meaning.specs.declared.actions.Cause.{Cause}
 use Rattle.inst_meaning.specs.World.{WorldParts}
 use Rattle.process.specs.declared.state.CallStack.{CallStack}
 use Rattle.process.specs.declared.state.Thread.{Thread}
@@ -18,12 +21,13 @@ use Rattle.hard_frames.specs.Places.{place_text}
 use Rattle.elide.specs.Watches.{WatchParts, nothing_watched, watch_of, is_some_held}
 use Rattle.tx_runtime.specs.Words.{cuts}
 use Rattle.mem_image.specs.Touches.{Touch, Store}
-use Rattle.rtm_core.specs.Transactions.{Transaction, RtmParts, Entry, thread, begun, committed, aborted, entry_of, after, aborts_at}
+use Rattle.rtm_core.specs.Transactions.{Transaction, RtmParts, Entry, thread, begun, committed, aborted, entry_of, after, aborts_at, seen_by}
 use Rattle.rtm_core.specs.Calls.{conflict_aborts}
 use Rattle.hard_meaning.specs.Aborts.{Status, Mismatch, Locked, Conflict, Overflow, Other}
 use Rattle.hard_meaning.specs.Checks.{is_active}
+use Rattle.tx_machine.specs.Resolved.{resolved}
 use Rattle.tx_machine.specs.Undone.{own_all, watches_all}
-use Rattle.tx_machine.specs.Own.{OwnParts, once_passed, once_begun, kept_thread, once_ticked, once_ended, once_committed, once_undone, compared_in, copied_in, copied_thread}
+use Rattle.tx_machine.specs.Own.{OwnParts, once_passed, once_begun, kept_thread, once_ticked, once_ended, once_committed, once_undone, compared_in, copied_in, copied_thread, failure_in, moved_thread}
 
 pub record CoreParts : Type 0 where
   pub program : HardParts
@@ -193,3 +197,14 @@ touched_as entry touch store t p = record p {
 
 abbrev pub core_touched : Touch → Option Store → ℕ → CoreParts → CoreParts
 core_touched touch store t p = touched_as (entry_of p.rtm t touch) touch store t p
+
+-- ---- actions of a thread alone
+
+-- why a thread can't do an action, where it can't
+abbrev pub failure_at : CoreParts → ℕ → Action → Option Cause
+failure_at p t action =
+    option_map_or (λ (w : OwnParts). failure_in p.program t w.thread (resolved (seen_by p.rtm t) action)) (slice_get p.own t) None
+
+-- the thread moves on by what an action is without memory
+abbrev pub core_moved : Option (Side × Loc) → Action → ℕ → CoreParts → CoreParts
+core_moved target action t p = with_own t (λ w. record w { thread = moved_thread p.program t target action w.thread }) p

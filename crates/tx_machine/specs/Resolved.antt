@@ -1,5 +1,5 @@
 -- Actions on memory as actions that need none, once the word that is found is known.
-use Rattle.std.specs.Prelude.{ℕ, Bool, true, false, List, [], Option, Some, None}
+use Rattle.std.specs.Prelude.{ℕ, Bool, true, false, Option, Some, None}
 use Rattle.ir_layout.specs.Memory.{is_valid}
 use Rattle.mem_image.specs.Accesses.{bytes}
 use Rattle.mem_image.specs.Bytes.{Memory, peek}
@@ -8,9 +8,6 @@ use Rattle.inst_meaning.specs.declared.actions.Action.{Action}
 use Rattle.inst_meaning.specs.declared.actions.Action.TheVariants.{Assign, Reserve, Read, Write, Update, Pass, Jump, Call, Ask, Create, Join, Exit, Return, Fault}
 use Rattle.inst_meaning.specs.declared.actions.Cause.TheVariants.{Access}
 use Rattle.inst_meaning.specs.declared.actions.Place.{Place}
-
-abbrev pub no_memory : Memory
-no_memory = record { places = []; globals = []; stacks = []; heap = [] }
 
 -- one that isn't valid can't be done
 abbrev pub where_valid : Bool → Action → Action
@@ -36,3 +33,20 @@ resolved mem (Join other) = Join other
 resolved mem (Exit code) = Exit code
 resolved mem (Return n) = Return n
 resolved mem (Fault cause) = Fault cause
+
+-- the actions on memory alone
+abbrev pub resolved_access : Memory → Action → Option Action
+resolved_access mem (Read place atomic) = Some (resolved mem (Read place atomic))
+resolved_access mem (Write place n atomic) = Some (resolved mem (Write place n atomic))
+resolved_access mem (Update place update) = Some (resolved mem (Update place update))
+resolved_access mem (Assign n) = None
+resolved_access mem (Reserve n) = None
+resolved_access mem Pass = None
+resolved_access mem (Jump label) = None
+resolved_access mem (Call n words) = None
+resolved_access mem (Ask request) = None
+resolved_access mem (Create address n argument) = None
+resolved_access mem (Join other) = None
+resolved_access mem (Exit code) = None
+resolved_access mem (Return n) = None
+resolved_access mem (Fault cause) = None

@@ -1,9 +1,12 @@
 //! All that runs, part by part.
-ghost use Rattle.std.specs.Prelude.{◌≡◌, ◌+◌, ◌*◌, ◌<◌, ◌^◌, None, Some, length, slice_get, IfOk, OnOk, OnErr};
+ghost use Rattle.std.specs.Prelude.{◌≡◌, ◌+◌, ◌*◌, ◌<◌, ◌^◌, None, Some, length, slice_get, IfOk, IfSome, OnOk, OnErr};
 ghost use Rattle.std.specs.Option.{is_some};
 ghost use Rattle.mem_image.specs.Accesses.{bytes};
+ghost use Rattle.mem_image.specs.Bytes.{read_of};
+ghost use Rattle.process.specs.Outcome.{touch_of};
 ghost use Rattle.rtm_core.specs.Calls.{reading, writing, updating, got_of};
-ghost use Rattle.rtm_core.specs.Transactions.{entry_of, word_seen};
+ghost use Rattle.rtm_core.specs.Transactions.{entry_of, seen_by, word_seen};
+ghost use Rattle.tx_machine.specs.Resolved.{resolved_access};
 ghost use Rattle.tx_machine.specs.Own.{meant, once_passed, once_ticked};
 ghost use Rattle.hard_meaning.specs.Checks.{is_active};
 ghost use Rattle.tx_machine.specs.Core.{CanPassIn, BeginsOutside, with_own, is_open, place_in, core_aborted, core_failed, core_trapped, core_begun, core_closed, can_close, core_ended, core_cut, compared_at, core_checked, copied_at, once_copied_at, core_copied, core_touched};
@@ -13,7 +16,7 @@ use crate::workers::{Status, Worker};
 use elide::Elision;
 use hard_frames::{Frame, Program, Stop, Words as Room, place_text};
 use hard_ir::When;
-use inst_meaning::{Place, World};
+use inst_meaning::{Action, Cause, Place, World};
 use ir_core::{Loc, Name, Tid, Ty};
 use process::{CallStack, Thread};
 use rtm_core::{Aborted, Got, Rtm};
@@ -309,5 +312,46 @@ impl<'a> Core<'a> {
             .unwrap();
         undo_each(&mut self.aborted, &mut self.workers, &mut self.elision);
         got
+    }
+
+    // What an action on memory is without memory, once the word that is found is known.
+    fn resolve(&self, t: Tid, action: &Action) -> Option<Action>
+        requires { t.0 < length self.now.own }
+        ensures access { result ≡ resolved_access (seen_by self.now.rtm t.0) action.now }
+        ensures simple { IfSome result (λ simple. touch_of simple ≡ None) }
+    {
+        match action {
+            Action::Read { place, .. } => Some(match self.peek(t, *place) {
+                Some(word) => Action::Assign(u128::from(word)),
+                None => Action::Fault(Cause::Access),
+            }),
+            Action::Write { place, .. } => Some(match self.peek(t, *place) {
+                Some(_) => Action::Pass,
+                None => Action::Fault(Cause::Access),
+            }),
+            Action::Update { place, update } => Some(match self.peek(t, *place) {
+                Some(word) => Action::Assign(update.found(word)),
+                None => Action::Fault(Cause::Access),
+            }),
+            Action::Assign(_)
+            | Action::Reserve(_)
+            | Action::Pass
+            | Action::Jump(_)
+            | Action::Call { .. }
+            | Action::Ask(_)
+            | Action::Create { .. }
+            | Action::Join(_)
+            | Action::Exit(_)
+            | Action::Return(_)
+            | Action::Fault(_) => None,
+        }
+    }
+
+    // The word at a place as a thread sees it; `None` exactly where the place isn't valid.
+    fn peek(&self, t: Tid, place: Place) -> Option<u64>
+        requires { t.0 < length self.now.own }
+        ensures { result ≡ read_of (seen_by self.now.rtm t.0) place.address (bytes place.size) }
+    {
+        self.rtm.peek(t, place.address, place.size)
     }
 }
