@@ -1,3 +1,4 @@
 pub mod Joined
+pub mod Accesses
 pub mod Cuts
 pub mod Undone

@@ -200,11 +200,17 @@ core_touched touch store t p = touched_as (entry_of p.rtm t touch) touch store t
 
 -- ---- actions of a thread alone
 
--- why a thread can't do an action, where it can't
+-- why a thread can't do an action without memory, where it can't
+abbrev pub failure_simply : CoreParts → ℕ → Action → Option Cause
+failure_simply p t action = option_map_or (λ (w : OwnParts). failure_in p.program t w.thread action) (slice_get p.own t) None
+
+-- and why not any action
 abbrev pub failure_at : CoreParts → ℕ → Action → Option Cause
-failure_at p t action =
-    option_map_or (λ (w : OwnParts). failure_in p.program t w.thread (resolved (seen_by p.rtm t) action)) (slice_get p.own t) None
+failure_at p t action = failure_simply p t (resolved (seen_by p.rtm t) action)
 
 -- the thread moves on by what an action is without memory
 abbrev pub core_moved : Option (Side × Loc) → Action → ℕ → CoreParts → CoreParts
 core_moved target action t p = with_own t (λ w. record w { thread = moved_thread p.program t target action w.thread }) p
+
+abbrev pub core_done : Option (Side × Loc) → Action → ℕ → CoreParts → CoreParts
+core_done target action t p = core_moved target (resolved (seen_by p.rtm t) action) t p

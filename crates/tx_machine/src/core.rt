@@ -9,7 +9,7 @@ ghost use Rattle.rtm_core.specs.Transactions.{entry_of, seen_by, word_seen};
 ghost use Rattle.tx_machine.specs.Resolved.{resolved_access};
 ghost use Rattle.tx_machine.specs.Own.{meant, once_passed, once_ticked};
 ghost use Rattle.hard_meaning.specs.Checks.{is_active};
-ghost use Rattle.tx_machine.specs.Core.{CanPassIn, BeginsOutside, with_own, is_open, place_in, core_aborted, core_failed, core_trapped, core_begun, core_closed, can_close, core_ended, core_cut, compared_at, core_checked, copied_at, once_copied_at, core_copied, core_touched};
+ghost use Rattle.tx_machine.specs.Core.{CanPassIn, BeginsOutside, with_own, is_open, place_in, core_aborted, core_failed, core_trapped, core_begun, core_closed, can_close, core_ended, core_cut, compared_at, core_checked, copied_at, once_copied_at, core_copied, core_touched, failure_simply, failure_at, core_moved, core_done};
 
 use crate::conflicts::undo_each;
 use crate::workers::{Status, Worker};
@@ -17,7 +17,7 @@ use elide::Elision;
 use hard_frames::{Frame, Program, Stop, Words as Room, place_text};
 use hard_ir::When;
 use inst_meaning::{Action, Cause, Place, World};
-use ir_core::{Loc, Name, Tid, Ty};
+use ir_core::{Loc, Name, Side, Tid, Ty};
 use process::{CallStack, Thread};
 use rtm_core::{Aborted, Got, Rtm};
 use std::alloc::{AllocError, Global};
@@ -353,5 +353,41 @@ impl<'a> Core<'a> {
         ensures { result ≡ read_of (seen_by self.now.rtm t.0) place.address (bytes place.size) }
     {
         self.rtm.peek(t, place.address, place.size)
+    }
+
+    // A thread does an action without memory. The answer is why it can't, where it can't; then, and for want of memory, nothing changes.
+    fn move_simply(
+        &mut self,
+        t: Tid,
+        target: Option<(Side, Loc)>,
+        action: &Action,
+    ) -> Result<Option<Cause>, AllocError>
+        requires made { t.0 < length self.old.own }
+        requires pass { CanPassIn self.old t.0 }
+        requires apart { touch_of action.now ≡ None }
+        ensures cause { IfOk result (λ cause. cause ≡ failure_simply self.old t.0 action.now) }
+        ensures ok { OnOk result (self.new ≡ core_moved target action.now t.0 self.old) }
+        ensures err { OnErr result (self.new ≡ self.old) }
+    {
+        self.workers[t.0 as usize].act(self.alloc, &self.program, &mut self.room, t, target, action)
+    }
+
+    // A thread does what an action is for itself, and nothing to memory. The answer is as before.
+    fn move_thread(
+        &mut self,
+        t: Tid,
+        target: Option<(Side, Loc)>,
+        action: &Action,
+    ) -> Result<Option<Cause>, AllocError>
+        requires made { t.0 < length self.old.own }
+        requires pass { CanPassIn self.old t.0 }
+        ensures cause { IfOk result (λ cause. cause ≡ failure_at self.old t.0 action.now) }
+        ensures ok { OnOk result (self.new ≡ core_done target action.now t.0 self.old) }
+        ensures err { OnErr result (self.new ≡ self.old) }
+    {
+        match self.resolve(t, action) {
+            Some(simple) => self.move_simply(t, target, &simple),
+            None => self.move_simply(t, target, action),
+        }
     }
 }
