@@ -70,7 +70,8 @@ impl<C: Drop> Rtm<C> {
     /// The word of an access as a thread sees it, or `None` exactly where the access isn't valid. No line is added.
     pub fn peek(&self, t: Tid, addr: u64, size: Size) -> Option<u64>
         requires { t.0 < thread_limit }
-        ensures { result ≡ read_of (seen_by self.now t.0) addr (bytes size) }
+        ensures word { result ≡ read_of (seen_by self.now t.0) addr (bytes size) }
+        ensures below { IfSome result (λ word. word < 2 ^ (8 * bytes size)) }
     {
         self.slots[t.0 as usize].read(&self.image, addr, size)
     }
