@@ -1,11 +1,14 @@
 -- All that runs, part by part, and what the machine's steps do to it, as the code does them.
-use Rattle.std.specs.Prelude.{ℕ, ◌+◌, ◌<◌, ◌^◌, ◌≡◌, OnSome, Bool, true, false, not, List, [], ◌∷◌, ◌++◌, Option, Some, None, replicate, slice_get, slice_set}
+use Rattle.std.specs.Prelude.{ℕ, ◌+◌, ◌-◌, ◌<◌, ◌^◌, ◌≡◌, OnSome, Bool, true, false, not, List, [], ◌∷◌, ◌++◌, Option, Some, None, length, take, replicate, slice_get, slice_set}
 use Rattle.std.specs.Option.{option_map, option_map_or, is_some}
 use Rattle.ir_core.specs.declared.types.Tid.{Tid}
 use Rattle.ir_core.specs.declared.types.Ty.{Ty}
 use Rattle.ir_core.specs.declared.types.Loc.{Loc}
 use Rattle.ir_core.specs.declared.values.Side.{Side}
+use Rattle.mem_image.specs.Accesses.{bytes}
+use Rattle.inst_meaning.specs.Accesses.{updated}
 use Rattle.inst_meaning.specs.declared.actions.Action.{Action}
+use Rattle.inst_meaning.specs.declared.actions.Action.TheVariants.{Assign, Reserve, Read, Write, Update, Pass, Jump, Call, Ask, Create, Join, Exit, Return, Fault}
 use Rattle.inst_meaning.specs.declared.actions.Cause.{Cause}
 use Rattle.inst_meaning.specs.World.{WorldParts}
 use Rattle.process.specs.declared.state.CallStack.{CallStack}
@@ -21,13 +24,13 @@ use Rattle.hard_frames.specs.Places.{place_text}
 use Rattle.elide.specs.Watches.{WatchParts, nothing_watched, watch_of, is_some_held}
 use Rattle.tx_runtime.specs.Words.{cuts}
 use Rattle.mem_image.specs.Touches.{Touch, Store}
-use Rattle.rtm_core.specs.Transactions.{Transaction, RtmParts, Entry, thread, begun, committed, aborted, entry_of, after, aborts_at, seen_by}
-use Rattle.rtm_core.specs.Calls.{conflict_aborts}
+use Rattle.rtm_core.specs.Transactions.{Transaction, RtmParts, Entry, thread, begun, committed, aborted, entry_of, after, aborts_at, seen_by, word_seen}
+use Rattle.rtm_core.specs.Calls.{conflict_aborts, reading, writing, updating}
 use Rattle.hard_meaning.specs.Aborts.{Status, Mismatch, Locked, Conflict, Overflow, Other}
 use Rattle.hard_meaning.specs.Checks.{is_active}
 use Rattle.tx_machine.specs.Resolved.{resolved}
 use Rattle.tx_machine.specs.Undone.{own_all, watches_all}
-use Rattle.tx_machine.specs.Own.{OwnParts, once_passed, once_begun, kept_thread, once_ticked, once_ended, once_committed, once_undone, compared_in, copied_in, copied_thread, failure_in, moved_thread}
+use Rattle.tx_machine.specs.Own.{OwnParts, once_passed, once_begun, kept_thread, once_ticked, once_ended, once_committed, once_pending, once_unpending, once_undone, compared_in, copied_in, copied_thread, failure_in, moved_thread}
 
 pub record CoreParts : Type 0 where
   pub program : HardParts
@@ -214,3 +217,40 @@ core_moved target action t p = with_own t (λ w. record w { thread = moved_threa
 
 abbrev pub core_done : Option (Side × Loc) → Action → ℕ → CoreParts → CoreParts
 core_done target action t p = core_moved target (resolved (seen_by p.rtm t) action) t p
+
+-- a turn is told, where it retires an instruction of the source: outside at once, inside it waits
+abbrev pub told_as : Bool → ℕ → CoreParts → CoreParts
+told_as true t p = with_own t once_pending p
+told_as false t p = record p { turns = p.turns ++ replicate 1 t }
+
+abbrev pub core_told : Bool → ℕ → CoreParts → CoreParts
+core_told true t p = told_as (is_open p t) t p
+core_told false t p = p
+
+-- and struck out again
+abbrev pub untold_as : Bool → ℕ → CoreParts → CoreParts
+untold_as true t p = with_own t once_unpending p
+untold_as false t p = record p { turns = take (length p.turns - 1) p.turns }
+
+abbrev pub core_untold : Bool → ℕ → CoreParts → CoreParts
+core_untold true t p = untold_as (is_open p t) t p
+core_untold false t p = p
+
+-- what an action does to memory
+abbrev pub core_accessed : Action → ℕ → CoreParts → CoreParts
+core_accessed (Read place atomic) t p = core_touched (reading place.address (bytes place.size)) None t p
+core_accessed (Write place n atomic) t p =
+    core_touched (writing place.address (bytes place.size)) (Some (record { address = place.address; size = bytes place.size; word = n })) t p
+core_accessed (Update place update) t p = core_touched (updating place.address (bytes place.size))
+    (Some (record { address = place.address; size = bytes place.size; word = updated update (word_seen p.rtm t place.address (bytes place.size)) })) t p
+core_accessed (Assign n) t p = p
+core_accessed (Reserve n) t p = p
+core_accessed Pass t p = p
+core_accessed (Jump label) t p = p
+core_accessed (Call n words) t p = p
+core_accessed (Ask request) t p = p
+core_accessed (Create address n argument) t p = p
+core_accessed (Join other) t p = p
+core_accessed (Exit code) t p = p
+core_accessed (Return n) t p = p
+core_accessed (Fault cause) t p = p

@@ -3,7 +3,7 @@
 --
 -- Choices: what a transaction kept and touched stands in memory under transactions, and what it watches and holds with lock elision. What belongs to a transaction
 -- has no meaning while none is open. A thread has aborted fewer transactions of each cause than it has begun, so no count runs over.
-use Rattle.std.specs.Prelude.{ℕ, suc, ◌≤◌, ◌+◌, Bool, true, false, List, [], ◌++◌, Option, Some, None}
+use Rattle.std.specs.Prelude.{ℕ, suc, ◌≤◌, ◌+◌, ◌-◌, Bool, true, false, List, [], ◌++◌, Option, Some, None}
 use Rattle.ir_core.specs.declared.types.Ty.{Ty}
 use Rattle.ir_core.specs.declared.types.Loc.{Loc}
 use Rattle.ir_core.specs.declared.values.Side.{Side}
@@ -114,6 +114,9 @@ once_committed w = record w { words = ended w.words; struck = []; hits = w.struc
 -- a turn more waits for its transaction to commit
 abbrev pub once_pending : OwnParts → OwnParts
 once_pending w = record w { pending = suc w.pending }
+
+abbrev pub once_unpending : OwnParts → OwnParts
+once_unpending w = record w { pending = w.pending - 1 }
 
 -- ---- checks and copies
 

@@ -3,20 +3,21 @@ ghost use Rattle.std.specs.Prelude.{◌≡◌, ◌+◌, ◌*◌, ◌<◌, ◌^�
 ghost use Rattle.std.specs.Option.{is_some};
 ghost use Rattle.mem_image.specs.Accesses.{bytes};
 ghost use Rattle.mem_image.specs.Bytes.{read_of};
+ghost use Rattle.inst_meaning.specs.Accesses.{updated, IsFittingUpdate};
 ghost use Rattle.process.specs.Outcome.{touch_of};
 ghost use Rattle.rtm_core.specs.Calls.{reading, writing, updating, got_of};
 ghost use Rattle.rtm_core.specs.Transactions.{entry_of, seen_by, word_seen};
 ghost use Rattle.tx_machine.specs.Resolved.{resolved_access};
 ghost use Rattle.tx_machine.specs.Own.{meant, once_passed, once_ticked};
 ghost use Rattle.hard_meaning.specs.Checks.{is_active};
-ghost use Rattle.tx_machine.specs.Core.{CanPassIn, BeginsOutside, with_own, is_open, place_in, core_aborted, core_failed, core_trapped, core_begun, core_closed, can_close, core_ended, core_cut, compared_at, core_checked, copied_at, once_copied_at, core_copied, core_touched, failure_simply, failure_at, core_moved, core_done};
+ghost use Rattle.tx_machine.specs.Core.{CanPassIn, BeginsOutside, with_own, is_open, place_in, core_aborted, core_failed, core_trapped, core_begun, core_closed, can_close, core_ended, core_cut, compared_at, core_checked, copied_at, once_copied_at, core_copied, core_touched, failure_simply, failure_at, core_moved, core_done, core_told, core_untold};
 
 use crate::conflicts::undo_each;
 use crate::workers::{Status, Worker};
 use elide::Elision;
 use hard_frames::{Frame, Program, Stop, Words as Room, place_text};
 use hard_ir::When;
-use inst_meaning::{Action, Cause, Place, World};
+use inst_meaning::{Action, Cause, Place, Update, World};
 use ir_core::{Loc, Name, Side, Tid, Ty};
 use process::{CallStack, Thread};
 use rtm_core::{Aborted, Got, Rtm};
@@ -350,7 +351,8 @@ impl<'a> Core<'a> {
     // The word at a place as a thread sees it; `None` exactly where the place isn't valid.
     fn peek(&self, t: Tid, place: Place) -> Option<u64>
         requires { t.0 < length self.now.own }
-        ensures { result ≡ read_of (seen_by self.now.rtm t.0) place.address (bytes place.size) }
+        ensures word { result ≡ read_of (seen_by self.now.rtm t.0) place.address (bytes place.size) }
+        ensures below { IfSome result (λ word. word < 2 ^ (8 * bytes place.size)) }
     {
         self.rtm.peek(t, place.address, place.size)
     }
@@ -388,6 +390,51 @@ impl<'a> Core<'a> {
         match self.resolve(t, action) {
             Some(simple) => self.move_simply(t, target, &simple),
             None => self.move_simply(t, target, action),
+        }
+    }
+
+    // A turn of a thread is told, where it retires an instruction of the source. For want of memory nothing changes.
+    fn tell(&mut self, t: Tid, retires: bool) -> Result<(), AllocError>
+        requires { t.0 < length self.old.own }
+        ensures ok { OnOk result (self.new ≡ core_told retires t.0 self.old) }
+        ensures err { OnErr result (self.new ≡ self.old) }
+    {
+        if !retires {
+            return Ok(());
+        }
+        if self.rtm.xtest(t) {
+            self.workers[t.0 as usize].retire()
+        } else {
+            self.turns.push_run(t, 1)
+        }
+    }
+
+    // The turn that was told didn't come.
+    fn untell(&mut self, t: Tid, retires: bool)
+        requires { t.0 < length self.old.own }
+        ensures { self.new ≡ core_untold retires t.0 self.old }
+    {
+        if !retires {
+            return;
+        }
+        if self.rtm.xtest(t) {
+            self.workers[t.0 as usize].unretire();
+        } else {
+            self.turns.take_back();
+        }
+    }
+
+    // A word in memory becomes another, as an update says.
+    fn update(&mut self, t: Tid, place: Place, update: Update) -> Got
+        requires made { t.0 < length self.old.own }
+        requires fits { IsFittingUpdate place update }
+        ensures got { result ≡ got_of (entry_of self.old.rtm t.0 (updating place.address (bytes place.size))) (word_seen self.old.rtm t.0 place.address (bytes place.size)) }
+        ensures parts { self.new ≡ core_touched (updating place.address (bytes place.size))
+            (Some (record { address = place.address; size = bytes place.size; word = updated update (word_seen self.old.rtm t.0 place.address (bytes place.size)) })) t.0 self.old }
+    {
+        match self.peek(t, place) {
+            Some(old) => self.exchange(t, place, update.updated(old)),
+            None => Got::Trap,
         }
     }
 }

@@ -6,7 +6,7 @@ ghost use Rattle.process.specs.Outcome.{touch_of};
 ghost use Rattle.process.specs.code.Threads.{CanPass};
 ghost use Rattle.hard_meaning.specs.Checks.{same_word};
 ghost use Rattle.hard_meaning.specs.Aborts.{status_word};
-ghost use Rattle.tx_machine.specs.Own.{meant, new_own, once_passed, kept_thread, once_begun, once_ticked, once_ended, once_committed, once_pending, compared_words, compared_in, once_copied, copied_in, copied_thread, failure_in, moved_thread, once_undone};
+ghost use Rattle.tx_machine.specs.Own.{meant, new_own, once_passed, kept_thread, once_begun, once_ticked, once_ended, once_committed, once_pending, once_unpending, compared_words, compared_in, once_copied, copied_in, copied_thread, failure_in, moved_thread, once_undone};
 
 use crate::marks::Marks;
 use hard_frames::{Aborts, Frame, Program, Words as Room};
@@ -211,6 +211,13 @@ impl Worker {
         };
         self.pending = pending;
         Ok(())
+    }
+
+    /// The last turn that was to wait doesn't.
+    pub(crate) fn unretire(&mut self)
+        ensures { self.new ≡ once_unpending self.old }
+    {
+        self.pending = self.pending.saturating_sub(1);
     }
 
     /// Whether both sides of a register have the same word of a type, where both have one.
