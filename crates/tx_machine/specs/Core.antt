@@ -25,7 +25,9 @@ use Rattle.elide.specs.Watches.{WatchParts, nothing_watched, watch_of, is_some_h
 use Rattle.tx_runtime.specs.Words.{cuts}
 use Rattle.mem_image.specs.Touches.{Touch, Store}
 use Rattle.rtm_core.specs.Transactions.{Transaction, RtmParts, Entry, thread, begun, committed, aborted, entry_of, after, aborts_at, seen_by, word_seen}
-use Rattle.rtm_core.specs.Calls.{conflict_aborts, reading, writing, updating}
+use Rattle.rtm_core.specs.declared.Got.{Got}
+use Rattle.rtm_core.specs.declared.Got.TheVariants as gots
+use Rattle.rtm_core.specs.Calls.{conflict_aborts, reading, writing, updating, got_of}
 use Rattle.hard_meaning.specs.Aborts.{Status, Mismatch, Locked, Conflict, Overflow, Other}
 use Rattle.hard_meaning.specs.Checks.{is_active}
 use Rattle.tx_machine.specs.Resolved.{resolved}
@@ -254,3 +256,44 @@ core_accessed (Join other) t p = p
 core_accessed (Exit code) t p = p
 core_accessed (Return n) t p = p
 core_accessed (Fault cause) t p = p
+
+-- whether the lists take it
+abbrev pub took : Got → Bool
+took (gots.Value n) = true
+took gots.Trap = true
+took gots.Overflow = false
+
+abbrev pub room_for : Action → ℕ → CoreParts → Bool
+room_for (Read place atomic) t p =
+    took (got_of (entry_of p.rtm t (reading place.address (bytes place.size))) (word_seen p.rtm t place.address (bytes place.size)))
+room_for (Write place n atomic) t p = took (got_of (entry_of p.rtm t (writing place.address (bytes place.size))) n)
+room_for (Update place update) t p =
+    took (got_of (entry_of p.rtm t (updating place.address (bytes place.size))) (word_seen p.rtm t place.address (bytes place.size)))
+room_for (Assign n) t p = true
+room_for (Reserve n) t p = true
+room_for Pass t p = true
+room_for (Jump label) t p = true
+room_for (Call n words) t p = true
+room_for (Ask request) t p = true
+room_for (Create address n argument) t p = true
+room_for (Join other) t p = true
+room_for (Exit code) t p = true
+room_for (Return n) t p = true
+room_for (Fault cause) t p = true
+
+-- where they do, it is done; else the thread is aborted
+abbrev pub finished_as : Bool → ℕ → CoreParts → CoreParts
+finished_as true t p = p
+finished_as false t p = core_aborted Overflow t p
+
+abbrev pub core_finished : Action → ℕ → CoreParts → CoreParts
+core_finished action t p = finished_as (room_for action t p) t (core_accessed action t p)
+
+-- an action of a thread alone: it can't be done, or is done
+abbrev pub alone_as : Option Cause → Bool → Action → ℕ → CoreParts → CoreParts
+alone_as (Some cause) retires action t p = core_trapped t (core_untold retires t p)
+alone_as None retires action t p = core_finished action t p
+
+abbrev pub core_alone : Bool → Option (Side × Loc) → Action → ℕ → CoreParts → CoreParts
+core_alone retires target action t p =
+    alone_as (failure_at (core_told retires t p) t action) retires action t (core_done target action t (core_told retires t p))

@@ -3,14 +3,14 @@ ghost use Rattle.std.specs.Prelude.{◌≡◌, ◌+◌, ◌*◌, ◌<◌, ◌^�
 ghost use Rattle.std.specs.Option.{is_some};
 ghost use Rattle.mem_image.specs.Accesses.{bytes};
 ghost use Rattle.mem_image.specs.Bytes.{read_of};
-ghost use Rattle.inst_meaning.specs.Accesses.{updated, IsFittingUpdate};
+ghost use Rattle.inst_meaning.specs.Accesses.{updated, IsFitting, IsFittingUpdate};
 ghost use Rattle.process.specs.Outcome.{touch_of};
 ghost use Rattle.rtm_core.specs.Calls.{reading, writing, updating, got_of};
 ghost use Rattle.rtm_core.specs.Transactions.{entry_of, seen_by, word_seen};
 ghost use Rattle.tx_machine.specs.Resolved.{resolved_access};
 ghost use Rattle.tx_machine.specs.Own.{meant, once_passed, once_ticked};
 ghost use Rattle.hard_meaning.specs.Checks.{is_active};
-ghost use Rattle.tx_machine.specs.Core.{CanPassIn, BeginsOutside, with_own, is_open, place_in, core_aborted, core_failed, core_trapped, core_begun, core_closed, can_close, core_ended, core_cut, compared_at, core_checked, copied_at, once_copied_at, core_copied, core_touched, failure_simply, failure_at, core_moved, core_done, core_told, core_untold};
+ghost use Rattle.tx_machine.specs.Core.{CanPassIn, BeginsOutside, with_own, is_open, place_in, core_aborted, core_failed, core_trapped, core_begun, core_closed, can_close, core_ended, core_cut, compared_at, core_checked, copied_at, once_copied_at, core_copied, core_touched, failure_simply, failure_at, core_moved, core_done, core_told, core_untold, core_accessed, took, room_for, core_alone};
 
 use crate::conflicts::undo_each;
 use crate::workers::{Status, Worker};
@@ -24,6 +24,16 @@ use rtm_core::{Aborted, Got, Rtm};
 use std::alloc::{AllocError, Global};
 use std::marker::Model;
 use turn_runs::TurnLog;
+
+// Whether an access found its lists not full.
+fn took(got: Got) -> bool
+    ensures { result ≡ took got }
+{
+    match got {
+        Got::Value(_) | Got::Trap => true,
+        Got::Overflow => false,
+    }
+}
 
 /// All that runs. Contracts see its parts.
 #[derive(Drop)]
@@ -274,6 +284,7 @@ impl<'a> Core<'a> {
         requires { t.0 < length self.old.own }
         ensures got { result ≡ got_of (entry_of self.old.rtm t.0 (reading place.address (bytes place.size))) (word_seen self.old.rtm t.0 place.address (bytes place.size)) }
         ensures parts { self.new ≡ core_touched (reading place.address (bytes place.size)) None t.0 self.old }
+        ensures count { length self.new.own ≡ length self.old.own }
     {
         let got = self
             .rtm
@@ -290,6 +301,7 @@ impl<'a> Core<'a> {
         ensures got { result ≡ got_of (entry_of self.old.rtm t.0 (writing place.address (bytes place.size))) word }
         ensures parts { self.new ≡ core_touched (writing place.address (bytes place.size))
             (Some (record { address = place.address; size = bytes place.size; word = word })) t.0 self.old }
+        ensures count { length self.new.own ≡ length self.old.own }
     {
         let got = self
             .rtm
@@ -306,6 +318,7 @@ impl<'a> Core<'a> {
         ensures got { result ≡ got_of (entry_of self.old.rtm t.0 (updating place.address (bytes place.size))) (word_seen self.old.rtm t.0 place.address (bytes place.size)) }
         ensures parts { self.new ≡ core_touched (updating place.address (bytes place.size))
             (Some (record { address = place.address; size = bytes place.size; word = word })) t.0 self.old }
+        ensures count { length self.new.own ≡ length self.old.own }
     {
         let got = self
             .rtm
@@ -431,10 +444,72 @@ impl<'a> Core<'a> {
         ensures got { result ≡ got_of (entry_of self.old.rtm t.0 (updating place.address (bytes place.size))) (word_seen self.old.rtm t.0 place.address (bytes place.size)) }
         ensures parts { self.new ≡ core_touched (updating place.address (bytes place.size))
             (Some (record { address = place.address; size = bytes place.size; word = updated update (word_seen self.old.rtm t.0 place.address (bytes place.size)) })) t.0 self.old }
+        ensures count { length self.new.own ≡ length self.old.own }
     {
         match self.peek(t, place) {
             Some(old) => self.exchange(t, place, update.updated(old)),
             None => Got::Trap,
+        }
+    }
+
+    // Does to memory what an action of a thread does there, and aborts those in its way. The answer is `false` exactly where a list is full, and then
+    // nothing changes.
+    fn access(&mut self, t: Tid, action: &Action) -> bool
+        requires made { t.0 < length self.old.own }
+        requires fits { IsFitting action.now }
+        ensures room { result ≡ room_for action.now t.0 self.old }
+        ensures parts { self.new ≡ core_accessed action.now t.0 self.old }
+        ensures count { length self.new.own ≡ length self.old.own }
+    {
+        let got = match action {
+            Action::Read { place, .. } => self.read(t, *place),
+            Action::Write { place, word, .. } => self.write(t, *place, *word),
+            Action::Update { place, update } => self.update(t, *place, *update),
+            Action::Assign(_)
+            | Action::Reserve(_)
+            | Action::Pass
+            | Action::Jump(_)
+            | Action::Call { .. }
+            | Action::Ask(_)
+            | Action::Create { .. }
+            | Action::Join(_)
+            | Action::Exit(_)
+            | Action::Return(_)
+            | Action::Fault(_) => return true,
+        };
+        took(got)
+    }
+
+    // A thread does an action alone.
+    fn act_alone(
+        &mut self,
+        t: Tid,
+        target: Option<(Side, Loc)>,
+        retires: bool,
+        action: &Action,
+    ) -> Result<(), AllocError>
+        requires made { t.0 < length self.old.own }
+        requires pass { CanPassIn self.old t.0 }
+        requires fits { IsFitting action.now }
+        ensures ok { OnOk result (self.new ≡ core_alone retires target action.now t.0 self.old) }
+        ensures err { OnErr result (self.new ≡ self.old) }
+    {
+        self.tell(t, retires)?;
+        match self.move_thread(t, target, action) {
+            Err(error) => {
+                self.untell(t, retires);
+                Err(error)
+            }
+            Ok(Some(_)) => {
+                self.untell(t, retires);
+                self.trap(t)
+            }
+            Ok(None) => {
+                if !self.access(t, action) {
+                    self.abort(t, Status::Overflow);
+                }
+                Ok(())
+            }
         }
     }
 }
