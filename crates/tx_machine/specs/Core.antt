@@ -290,10 +290,9 @@ abbrev pub core_finished : Action → ℕ → CoreParts → CoreParts
 core_finished action t p = finished_as (room_for action t p) t (core_accessed action t p)
 
 -- an action of a thread alone: it can't be done, or is done
-abbrev pub alone_as : Option Cause → Bool → Action → ℕ → CoreParts → CoreParts
-alone_as (Some cause) retires action t p = core_trapped t (core_untold retires t p)
-alone_as None retires action t p = core_finished action t p
+abbrev pub alone_as : Option Cause → Bool → Option (Side × Loc) → Action → ℕ → CoreParts → CoreParts
+alone_as (Some cause) retires target action t p = core_trapped t p
+alone_as None retires target action t p = core_finished action t (core_done target action t (core_told retires t p))
 
 abbrev pub core_alone : Bool → Option (Side × Loc) → Action → ℕ → CoreParts → CoreParts
-core_alone retires target action t p =
-    alone_as (failure_at (core_told retires t p) t action) retires action t (core_done target action t (core_told retires t p))
+core_alone retires target action t p = alone_as (failure_at (core_told retires t p) t action) retires target action t p

@@ -1,5 +1,5 @@
 //! All that runs, part by part.
-ghost use Rattle.std.specs.Prelude.{◌≡◌, ◌+◌, ◌*◌, ◌<◌, ◌^◌, None, Some, length, slice_get, IfOk, IfSome, OnOk, OnErr};
+ghost use Rattle.std.specs.Prelude.{◌≡◌, ◌+◌, ◌*◌, ◌<◌, ◌^◌, None, Some, length, slice_get, IfOk, IfSome, OnOk, OnErr, OnSome};
 ghost use Rattle.std.specs.Option.{is_some};
 ghost use Rattle.mem_image.specs.Accesses.{bytes};
 ghost use Rattle.mem_image.specs.Bytes.{read_of};
@@ -382,6 +382,7 @@ impl<'a> Core<'a> {
         requires apart { touch_of action.now ≡ None }
         ensures cause { IfOk result (λ cause. cause ≡ failure_simply self.old t.0 action.now) }
         ensures ok { OnOk result (self.new ≡ core_moved target action.now t.0 self.old) }
+        ensures failed { IfOk result (λ cause. OnSome cause (self.new ≡ self.old)) }
         ensures err { OnErr result (self.new ≡ self.old) }
     {
         self.workers[t.0 as usize].act(self.alloc, &self.program, &mut self.room, t, target, action)
@@ -398,6 +399,7 @@ impl<'a> Core<'a> {
         requires pass { CanPassIn self.old t.0 }
         ensures cause { IfOk result (λ cause. cause ≡ failure_at self.old t.0 action.now) }
         ensures ok { OnOk result (self.new ≡ core_done target action.now t.0 self.old) }
+        ensures failed { IfOk result (λ cause. OnSome cause (self.new ≡ self.old)) }
         ensures err { OnErr result (self.new ≡ self.old) }
     {
         match self.resolve(t, action) {

@@ -1,5 +1,5 @@
 //! Threads, each with what an abort of it changes.
-ghost use Rattle.std.specs.Prelude.{◌≡◌, ◌+◌, ◌<◌, ◌^◌, None, IfOk, OnOk, OnErr};
+ghost use Rattle.std.specs.Prelude.{◌≡◌, ◌+◌, ◌<◌, ◌^◌, None, IfOk, OnOk, OnErr, OnSome};
 ghost use Rattle.std.specs.Option.{is_some};
 ghost use Rattle.inst_meaning.specs.Registers.{get};
 ghost use Rattle.process.specs.Outcome.{touch_of};
@@ -245,6 +245,7 @@ impl Worker {
         requires apart { touch_of action.now ≡ None }
         ensures cause { IfOk result (λ cause. cause ≡ failure_in program.now t.0 self.old.thread action.now) }
         ensures ok { OnOk result (self.new ≡ record self.old { thread = moved_thread program.now t.0 target action.now self.old.thread }) }
+        ensures failed { IfOk result (λ cause. OnSome cause (self.new ≡ self.old)) }
         ensures err { OnErr result (self.new ≡ self.old) }
     {
         let local = match &mut self.thread {
