@@ -100,7 +100,7 @@ impl<'a> Program<'a> {
     }
 
     /// The blocks of a function, and none where there is no such function.
-    pub fn blocks(&self, function: usize) -> &[HBlock]
+    pub fn blocks(&self, function: usize) -> &'a [HBlock]
         ensures { result.now ≡ blocks_at self.now function }
     {
         if function < self.hardened.module().funcs().len() {
@@ -111,7 +111,7 @@ impl<'a> Program<'a> {
     }
 
     /// The instruction at a frame's place.
-    fn inst(&self, frame: &Frame) -> Option<&HInst>
+    pub fn inst(&self, frame: &Frame) -> Option<&'a HInst>
         ensures found { option_copied result ≡ inst_at self.now frame.now }
         ensures within { OnSome result (frame.now.index + 1 < 2 ^ 64) }
     {

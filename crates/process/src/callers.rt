@@ -8,7 +8,7 @@ use std::marker::Model;
 use std::mem;
 
 /// Frames that wait, each for the one that it called. Contracts see their list, the last first.
-#[derive(Drop)]
+#[derive(Clone, Drop)]
 pub struct Callers<F> {
     frames: Vec<F>,
 }

@@ -1,5 +1,5 @@
 //! Memory with the transactions of 64 threads.
-ghost use Rattle.std.specs.Prelude.{◌≡◌, ◌+◌, ◌*◌, ◌^◌, ◌<◌, ◌≤◌, ◌++◌, true, false, None, Some, IfOk, IfSome, OnErr, is_some, replicate};
+ghost use Rattle.std.specs.Prelude.{◌≡◌, ◌+◌, ◌*◌, ◌^◌, ◌<◌, ◌≤◌, ◌++◌, true, false, None, Some, IfOk, IfSome, IsOk, OnErr, is_some, replicate, vec_len, vec_capacity};
 ghost use Rattle.ir_layout.specs.Memory.{is_valid, thread_limit};
 ghost use Rattle.mem_image.specs.Accesses.{bytes};
 ghost use Rattle.mem_image.specs.Bytes.{read_of};
@@ -120,6 +120,8 @@ impl<C: Drop> Rtm<C> {
         ensures parts { IfOk result (λ _. self.new ≡ after (entry_of self.old t.0 (touch_of access.now)) self.old t.0 (touch_of access.now) (store_of access.now store)) }
         ensures out { IfOk result (λ _. out.new.items ≡ out.old.items ++ conflict_aborts (aborts_at (entry_of self.old t.0 (touch_of access.now)) self.old t.0 (touch_of access.now))) }
         ensures unchanged { OnErr result ((self.new ≡ self.old) × (out.new.items ≡ out.old.items)) }
+        ensures succeeds { vec_len out.old + thread_limit ≤ vec_capacity out.old → IsOk result }
+        ensures capacity { vec_capacity out.old ≤ vec_capacity out.new }
     {
         if !self.slots[t.0 as usize].has_room(access) {
             return Ok(Got::Overflow);
@@ -149,7 +151,8 @@ impl<C: Drop> Rtm<C> {
 
     /// Reads a word as a thread sees it. Inside a transaction its line is added to those that were read. Every other transaction that
     /// the access conflicts with is aborted first, and goes to `out` in order of threads. `Trap` comes exactly where the access isn't
-    /// valid, `Overflow` exactly where the thread's transaction has no room for its line; then nothing changes.
+    /// valid, `Overflow` exactly where the thread's transaction has no room for its line; then nothing changes. Where `out` has room for 64
+    /// more it takes no memory.
     pub fn read(
         &mut self,
         t: Tid,
@@ -162,6 +165,8 @@ impl<C: Drop> Rtm<C> {
         ensures parts { IfOk result (λ _. self.new ≡ after (entry_of self.old t.0 (reading addr (bytes size))) self.old t.0 (reading addr (bytes size)) None) }
         ensures out { IfOk result (λ _. out.new.items ≡ out.old.items ++ conflict_aborts (aborts_at (entry_of self.old t.0 (reading addr (bytes size))) self.old t.0 (reading addr (bytes size)))) }
         ensures unchanged { OnErr result ((self.new ≡ self.old) × (out.new.items ≡ out.old.items)) }
+        ensures succeeds { vec_len out.old + thread_limit ≤ vec_capacity out.old → IsOk result }
+        ensures capacity { vec_capacity out.old ≤ vec_capacity out.new }
     {
         let Some(word) = self.peek(t, addr, size) else {
             return Ok(Got::Trap);
@@ -190,6 +195,8 @@ impl<C: Drop> Rtm<C> {
         ensures parts { IfOk result (λ _. self.new ≡ after (entry_of self.old t.0 (writing addr (bytes size))) self.old t.0 (writing addr (bytes size)) (Some (record { address = addr; size = bytes size; word = v }))) }
         ensures out { IfOk result (λ _. out.new.items ≡ out.old.items ++ conflict_aborts (aborts_at (entry_of self.old t.0 (writing addr (bytes size))) self.old t.0 (writing addr (bytes size)))) }
         ensures unchanged { OnErr result ((self.new ≡ self.old) × (out.new.items ≡ out.old.items)) }
+        ensures succeeds { vec_len out.old + thread_limit ≤ vec_capacity out.old → IsOk result }
+        ensures capacity { vec_capacity out.old ≤ vec_capacity out.new }
     {
         if !self.image.valid(addr, size) {
             return Ok(Got::Trap);
@@ -219,6 +226,8 @@ impl<C: Drop> Rtm<C> {
         ensures parts { IfOk result (λ _. self.new ≡ after (entry_of self.old t.0 (updating addr (bytes size))) self.old t.0 (updating addr (bytes size)) (store_at addr (bytes size) v)) }
         ensures out { IfOk result (λ _. out.new.items ≡ out.old.items ++ conflict_aborts (aborts_at (entry_of self.old t.0 (updating addr (bytes size))) self.old t.0 (updating addr (bytes size)))) }
         ensures unchanged { OnErr result ((self.new ≡ self.old) × (out.new.items ≡ out.old.items)) }
+        ensures succeeds { vec_len out.old + thread_limit ≤ vec_capacity out.old → IsOk result }
+        ensures capacity { vec_capacity out.old ≤ vec_capacity out.new }
     {
         let Some(word) = self.peek(t, addr, size) else {
             return Ok(Got::Trap);

@@ -1,4 +1,5 @@
 -- The functions and blocks of a loose image, by number and by label; and that no block checks its edges where no branch leads to it.
+use Rattle.renamed_modules.proofs.SamePlaces.{same-place}
 use Rattle.std.proofs.Common.{ℕ, zero, suc, ◌≡◌, ◌∙◌, ◌⊎◌, inl, inr, ◌<◌, ◌≤◌, ◌+◌, ◌-◌, Bool, true, false, List, [], ◌∷◌, drop, length, get_or, Option, Some, None, slice_get, refl, ap, sym, arith}
 use Rattle.std.specs.Prelude.{nat_eq, if◌then◌else◌}
 use Rattle.std.specs.List.{list_any}
@@ -27,17 +28,6 @@ use Rattle.hard_simulation.proofs.Edges.{never-enters}
 use Rattle.hard_simulation.proofs.Landing.{SameLabel, numbers-same}
 
 -- ---- functions and blocks of an image
-
--- lists of one length have items at the same places
-pub same-place : {A B : Type 0} (xs : List A) (ys : List B) (n : ℕ) (x : A) → length ys ≡ length xs → slice_get xs n ≡ Some x → (y : B) × (slice_get ys n ≡ Some y)
-same-place {A} {B} xs ys n x count at = by_place (slice_get_cases ys n).1
-  where
-    within : n < length xs
-    within = slice_get_within xs n x at
-
-    by_place : ((y : B) × (n < length ys) × (slice_get ys n ≡ Some y) × (get_or ys n y ≡ y)) ⊎ ((length ys ≤ n) × (slice_get ys n ≡ None)) → (y : B) × (slice_get ys n ≡ Some y)
-    by_place (inl (y, inside, there, here)) = (y, there)
-    by_place (inr (past, none)) = absurd (omega (arith, within, past, count))
 
 -- the blocks of a function, and what they are of
 pub record IsHardFunc (m : ModuleParts) (h : HardParts) (n : ℕ) (f : FuncParts) : Type 0 where

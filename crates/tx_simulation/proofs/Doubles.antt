@@ -173,7 +173,7 @@ misses-as : (mode : Mode) (c : Scene mode) (retires : Bool) (target : Option (Si
 misses-as (Free plain) c retires target place valid = rw valid refl
 misses-as (Inside tx) c retires target place valid = rw valid refl
 
-faults-as : (mode : Mode) (c : Scene mode) (retires : Bool) (target : Option (Side × Loc)) (cause : Cause)
+pub faults-as : (mode : Mode) (c : Scene mode) (retires : Bool) (target : Option (Side × Loc)) (cause : Cause)
     → acted c.h (now mode c) c.t (here mode c) c.b target retires (Fault cause) ≡ trapped c.h (now mode c) c.t (here mode c) c.b.frame
 faults-as (Free plain) c retires target cause = refl
 faults-as (Inside tx) c retires target cause = refl

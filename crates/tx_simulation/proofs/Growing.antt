@@ -146,7 +146,7 @@ turn-upsets h s t = by_worker (slice_get s.workers t)
 
 -- ---- aborts and upsets
 
-abort-upsets : (s : State) (t : ℕ) (o : Option Worker) → (abort_in s t o).upsets ≡ s.upsets
+pub abort-upsets : (s : State) (t : ℕ) (o : Option Worker) → (abort_in s t o).upsets ≡ s.upsets
 abort-upsets s t None = refl
 abort-upsets s t (Some w) = refl
 

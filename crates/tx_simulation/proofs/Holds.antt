@@ -113,6 +113,15 @@ module _ (m : ModuleParts) (h : HardParts) (arguments : List ℕ) (s : SourceSta
     aborts status = moves (aborted status w) (worker-aborted m h s.process.memory t x w status (facts.all.each t x w at hard_at))
         (within-aborted status w w.mode refl) (named-aborted upsets status w named-here)
 
+    -- and so are those first that stand in the way of its access
+    pub aborts-after : (claim : Claim) (status : Status) → Holds m h arguments (record now { workers = slice_set (map (spared claim) workers) t (aborted status w) })
+    aborts-after claim status =
+        let within : IsWithin (aborted status w).mode w.mode = within-aborted status w w.mode refl in
+        Runs s _ turns upsets refl (stays-kept m h arguments s workers turns upsets facts t x w at hard_at claim (aborted status w)
+        (worker-aborted m h s.process.memory t x w status (facts.all.each t x w at hard_at))
+        (λ mode clear apart line p q. apart line (within.wrote line p) q) (λ mode clear apart line p q. apart line p (within.touched line q))
+        (λ a e. free-here a (within.watched a e)) (named-aborted upsets status w named-here))
+
     -- it is done where the lists have room
     pub rooms : (b : Bool) (next : State) → Holds m h arguments next → Holds m h arguments (where_room b now t w next)
     rooms true next is = is

@@ -48,7 +48,7 @@ use Rattle.tx_simulation.proofs.Holds.{Holds, Runs, rooms}
 use Rattle.tx_simulation.proofs.Acts.{accesses}
 use Rattle.tx_simulation.proofs.Outside.{steps-to, acts-outside}
 use Rattle.tx_simulation.proofs.Leaving.{ends-program}
-use Rattle.tx_simulation.proofs.Blocks.{same-place}
+use Rattle.renamed_modules.proofs.SamePlaces.{same-place}
 use Rattle.tx_simulation.proofs.Scene.{Scene, here, now, seen, AfterTurn, found, can, defined}
 
 -- ---- ends of threads

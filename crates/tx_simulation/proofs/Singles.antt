@@ -227,14 +227,14 @@ mutex-inside tx c inst r none same action acts call is = rw is (by_test (can_wat
 -- ---- a branch
 
 -- the hardened frame can't go along the edge
-jump-none : (mode : Mode) (c : Scene mode) (target : Option (Side × Loc)) (label : Loc) → hard_frame.jumped c.h c.b.frame label ≡ None
+pub jump-none : (mode : Mode) (c : Scene mode) (target : Option (Side × Loc)) (label : Loc) → hard_frame.jumped c.h c.b.frame label ≡ None
     → acted c.h (now mode c) c.t (here mode c) c.b target true (Jump label) ≡ trapped c.h (now mode c) c.t (here mode c) c.b.frame
 jump-none (Free plain) c target label e = rw e refl
 jump-none (Inside tx) c target label e = rw e refl
 
 module _ (mode : Mode) (c : Scene mode) (inst : Inst) (r : IsReady mode c inst) where
   -- the source goes along the edge
-  goes-along : (label : Loc) → source_action c.m c.a.frame.registers inst ≡ Jump label → (frame : SourceFrame) × (source.jumped c.m c.a.frame label ≡ Some frame)
+  pub goes-along : (label : Loc) → source_action c.m c.a.frame.registers inst ≡ Jump label → (frame : SourceFrame) × (source.jumped c.m c.a.frame label ≡ Some frame)
   goes-along label acts = by_jump (source.jumped c.m c.a.frame label) refl
     where
       fails : unless (is_some (source.jumped c.m c.a.frame label)) Unreachable ≡ None

@@ -50,7 +50,8 @@ use Rattle.hard_meaning.specs.Windows.{assigns_on, arm_of, phi_value, is_number,
 use Rattle.tx_simulation.proofs.Points.{source_action, is_edged}
 use Rattle.tx_simulation.proofs.Facts.{IsAstray}
 use Rattle.tx_simulation.proofs.Named.{assigned-append}
-use Rattle.tx_simulation.proofs.Blocks.{IsHardFunc, hard-func, hard-block, same-place, number-of-block}
+use Rattle.renamed_modules.proofs.SamePlaces.{same-place}
+use Rattle.tx_simulation.proofs.Blocks.{IsHardFunc, hard-func, hard-block, number-of-block}
 use Rattle.tx_simulation.proofs.Edges.{Parted, words-part, edge_phis_on, direction_to, edge_words, edge-words, master-word, shadow-word}
 use Rattle.tx_simulation.proofs.Landing.{Edge, edge-to, hard-jumps, same-layout}
 

@@ -1,8 +1,6 @@
 -- A point outlives an upset: what is known beside sides is in a window, and the side that was struck isn't known from then on.
-use Rattle.std.proofs.Common.{ℕ, zero, suc, ◌≡◌, ◌≢◌, ◌∙◌, Bool, true, false, List, [], ◌∷◌, ◌++◌, Option, Some, None, slice_get, slice_set, refl, ap, sym, subst}
-use Rattle.std.specs.Prelude.{nat_eq}
+use Rattle.std.proofs.Common.{ℕ, suc, ◌≡◌, ◌∙◌, Bool, true, false, List, [], ◌∷◌, Option, Some, slice_get, refl, ap, sym, subst}
 use Rattle.std.specs.Option.{option_map}
-use Rattle.std.proofs.lemmas.Bool.{eqb-true, eqb-false}
 use Rattle.ir_core.specs.declared.types.Ty.{Ty}
 use Rattle.ir_core.specs.declared.types.Loc.{Loc}
 use Rattle.ir_core.specs.declared.values.Val.{Val}
@@ -20,15 +18,16 @@ use Rattle.inst_meaning.specs.Registers.{get, put}
 use Rattle.inst_meaning.proofs.Puts.{put-elsewhere}
 use Rattle.hard_ir.specs.declared.instruction.HReg.{HReg}
 use Rattle.hard_ir.specs.declared.instruction.HInst.{HInst}
+use Rattle.hard_ir.specs.declared.instruction.HInst.TheVariants.{End}
+use Rattle.hard_ir.specs.declared.instruction.When.TheVariants.{Always}
 use Rattle.hard_ir.specs.Image.{checked_before}
-use Rattle.hard_ir.specs.Hardened.{HardParts}
 use Rattle.hard_simulation.proofs.Files.{AreFresh, is_among}
 use Rattle.hard_simulation.proofs.Sides.{Sides, Both, Alone, On, on-map, on-pure}
-use Rattle.hard_meaning.specs.State.{Transaction, Mode, Free, Inside, is_inside}
+use Rattle.hard_meaning.specs.State.{Mode, Free, Inside, is_inside}
 use Rattle.hard_meaning.specs.Windows.{is_effect, is_window}
 use Rattle.tx_simulation.proofs.Lines.{never-both}
-use Rattle.tx_simulation.proofs.Reading.{word_in, SameIn, AreSameIn}
-use Rattle.tx_simulation.proofs.Points.{IfInside, IsFree, IfTrue, AgreeIn, source_action, IsRead, IsStored, Stands, Nowhere, At, Checking, Outside, Doubling, Late, Copying, AtEdge}
+use Rattle.tx_simulation.proofs.Reading.{SameIn, AreSameIn}
+use Rattle.tx_simulation.proofs.Points.{checks_passed, core_onto, IfInside, IsFree, IfTrue, AgreeIn, AgreeBut, source_action, IsRead, IsStored, Stands, Nowhere, At, Checking, Outside, Doubling, Late, Copying, AtEdge}
 use Rattle.tx_simulation.proofs.Windowed.{master, checked-window, ended-window, copy-window}
 
 -- ---- modes
@@ -158,13 +157,14 @@ module _ (m : ModuleParts) (names : ℕ → Bool) (edged : Bool) (k : ℕ) (mode
     point-left (Outside inst behind rest before e f g free single effect when rows same agree agree') =
         Outside inst behind rest before e f g (free-struck k mode free) single effect when rows
         (same-left masters masters' registers (checked_before inst) (λ n ty reg at. in_window _ _ g f reg.0
-        (by_mode mode free (ended-window false edged inst effect ty reg n before rest when at))) same)
+        (by_mode mode free (master reg.0) (End ∷ checks_passed Always (checked_before inst) before) (core_onto inst rest)
+        (ended-window false edged inst effect ty reg n before rest when at))) same)
         (on_m (λ file. AgreeIn names file registers) agree) (on_s (λ file. AgreeIn names file registers) agree')
       where
-        by_mode : (mode : Mode) → IsFree mode → {r : HReg} {past code : List HInst} → is_window false edged r past code ≡ true
+        by_mode : (mode : Mode) → IsFree mode → (r : HReg) (past code : List HInst) → is_window false edged r past code ≡ true
             → is_window (is_inside mode) edged r past code ≡ true
-        by_mode (Free plain) free w = w
-        by_mode (Inside tx) free w = absurd free
+        by_mode (Free plain) free r past code w = w
+        by_mode (Inside tx) free r past code w = absurd free
     point-left (Doubling inst behind rest dst word e f rows twice to given read agree agree') =
         Doubling inst behind rest dst word e f rows twice to given (on_m (λ file. IsRead (struck_mode k mode) mem (source_action m registers inst))
         (read-struck k mode mem (source_action m registers inst) read))
@@ -174,7 +174,7 @@ module _ (m : ModuleParts) (names : ℕ → Bool) (edged : Bool) (k : ℕ) (mode
         (on_m (λ file. AgreeIn names file registers) agree) (on_s (λ file. AgreeIn names file registers) agree')
     point-left (Copying regs rest f rows fresh agree but) =
         Copying regs rest f rows (fresh-left regs (λ at e. in_window past _ refl f at (copy-window (is_inside mode) edged at regs rest past e)) fresh)
-        (on_m (λ file. AgreeIn names file registers) agree) (on_s _ but)
+        (on_m (λ file. AgreeIn names file registers) agree) (on_s (λ file. AgreeBut names regs file registers) but)
     point-left (AtEdge name direction rest f rows two on_master on_shadow agree agree') =
         AtEdge name direction rest f rows two (on_m (λ file. get file name.0 ≡ Some direction) on_master) (on_s (λ file. get file name.0 ≡ Some direction) on_shadow)
         (on_m (λ file. AgreeIn names file registers) agree) (on_s (λ file. AgreeIn names file registers) agree')

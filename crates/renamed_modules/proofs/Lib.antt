@@ -1,0 +1,17 @@
+pub mod NumberedModules
+pub mod RenamedAccepted
+pub mod RenamedActions
+pub mod RenamedAgain
+pub mod RenamedCalls
+pub mod RenamedFlow
+pub mod RenamedFrames
+pub mod RenamedKinds
+pub mod RenamedLimits
+pub mod RenamedLines
+pub mod RenamedMemory
+pub mod RenamedPlaces
+pub mod RenamedRuns
+pub mod RenamedTypes
+pub mod Renames
+pub mod SameModules
+pub mod SamePlaces

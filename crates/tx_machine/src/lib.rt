@@ -1,0 +1,7 @@
+//! The machine of hardened programs with transactions, lock elision and upsets: threads that take turns, one hardened instruction a turn.
+//!
+//! Definitions: those of `hard_meaning`. How the code keeps a thread stands in `specs/Own.antt`.
+#![tactic(auto)]
+
+mod marks;
+mod workers;
