@@ -1,3 +1,4 @@
 pub mod Own
 pub mod Joined
 pub mod Undone
+pub mod Struck

@@ -4,4 +4,5 @@
 #![tactic(auto)]
 
 mod marks;
+mod strikes;
 mod workers;
