@@ -1,3 +1,4 @@
 pub mod Joined
 pub mod Undone
 pub mod StruckFrames
+pub mod Targets

@@ -10,7 +10,7 @@ use Rattle.hard_ir.specs.Hardened.{HardParts}
 use Rattle.hard_frames.specs.declared.state.Frame.{Frame}
 use Rattle.hard_frames.specs.Code.{blocks_at}
 use Rattle.hard_frames.specs.Frames.{file, with_file}
-use Rattle.hard_meaning.specs.Strikes.{named_in, struck_word, frame_at, with_frame}
+use Rattle.hard_meaning.specs.Strikes.{Target, named_in, struck_word, frame_at, with_frame}
 use Rattle.tx_machine.specs.declared.strikes.StruckAt.{StruckAt}
 
 -- ---- a frame
@@ -52,3 +52,7 @@ stack_struck h upset stack = once_struck_at h upset stack (frame_at stack upset.
 
 abbrev pub stack_place : HardParts → UpsetSpec → CallStack Frame → Option StruckAt
 stack_place h upset stack = option_and_then (struck_place h upset) (frame_at stack upset.depth)
+
+-- the place of a target
+abbrev pub place_of : Target → StruckAt
+place_of to = record { function = to.frame.function; block = to.frame.block; index = to.frame.index; reg = to.register }
