@@ -1,7 +1,7 @@
 -- Names are compared byte by byte, and a frame that waits is struck where it stands.
-use Rattle.std.proofs.Common.{ℕ, zero, suc, ◌+◌, ◌<◌, ◌≡◌, ◌∙◌, Bool, true, false, not, ◌&&◌, cond, List, [], ◌∷◌, length, get_or, Option, Some, None, Result, Ok, Err, refl, ap, sym, subst, add-one, arith}
-use Rattle.std.specs.Prelude.{nat_eq, nat_lt, slice_get, slice_set, OnOk, OnErr}
-use Rattle.std.specs.List.{position, position_or_len}
+use Rattle.std.proofs.Common.{ℕ, zero, suc, ◌+◌, ◌<◌, ◌≡◌, ◌∙◌, Bool, true, false, not, ◌&&◌, cond, List, [], ◌∷◌, length, Some, None, Result, Ok, Err, refl, ap, sym, subst, arith}
+use Rattle.std.specs.Prelude.{nat_eq, nat_lt, slice_get, OnOk, OnErr}
+use Rattle.std.specs.List.{position_or_len}
 use Rattle.std.specs.Str.{bytes_eq}
 use Rattle.std.proofs.Math.ListN.{set}
 use Rattle.std.proofs.lemmas.List.Recursion.{is_position_or_len}

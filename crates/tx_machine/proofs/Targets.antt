@@ -1,17 +1,15 @@
 -- What the code of an upset does is what the definitions say: the target that it strikes, and the thread after it.
-use Rattle.std.proofs.Common.{ℕ, ◌≡◌, ◌∙◌, List, Option, Some, None, refl, ap, sym}
+use Rattle.std.proofs.Common.{ℕ, ◌≡◌, ◌∙◌, Option, Some, None, refl, ap, sym}
 use Rattle.std.specs.Prelude.{slice_get}
 use Rattle.std.specs.Option.{option_map, option_and_then}
 use Rattle.ir_core.specs.Module.{FuncParts}
 use Rattle.process.specs.declared.state.CallStack.{CallStack}
-use Rattle.process.specs.declared.state.Thread.{Thread}
 use Rattle.process.specs.declared.state.Thread.TheVariants.{Running}
 use Rattle.sched_file.specs.declared.entries.UpsetSpec.{UpsetSpec}
 use Rattle.hard_ir.specs.Hardened.{HardParts}
 use Rattle.hard_frames.specs.declared.state.Frame.{Frame}
 use Rattle.hard_frames.specs.Code.{blocks_at}
 use Rattle.hard_meaning.specs.Strikes.{Target, target_with, target_at, target_named, target_in, target_of, struck_word, named_in, frame_at, struck}
-use Rattle.tx_machine.specs.declared.strikes.StruckAt.{StruckAt}
 use Rattle.tx_machine.specs.Struck.{found_at, found_named, found_in, place_struck, struck_place, once_struck_at, stack_struck, stack_place, place_of}
 
 module _ (h : HardParts) (upset : UpsetSpec) (stack : CallStack Frame) where

@@ -4,5 +4,6 @@
 #![tactic(auto)]
 
 mod marks;
+mod records;
 mod strikes;
 mod workers;

@@ -1,4 +1,3 @@
-use Rattle.std.proofs.Common.{◌≡◌}
 use Rattle.tx_machine.proofs.StruckFrames.{on-ok, on-err, back-struck, back-same}
 use Rattle.tx_machine.proofs.strikes.strike_caller.Goals as goal
 
