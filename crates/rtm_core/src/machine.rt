@@ -3,7 +3,7 @@ ghost use Rattle.std.specs.Prelude.{◌≡◌, ◌+◌, ◌*◌, ◌^◌, ◌<�
 ghost use Rattle.ir_layout.specs.Memory.{is_valid, thread_limit};
 ghost use Rattle.mem_image.specs.Accesses.{bytes};
 ghost use Rattle.mem_image.specs.Bytes.{read_of};
-ghost use Rattle.rtm_core.specs.Calls.{touch_of, store_of, store_at, reading, writing, updating, got_of, conflict_aborts};
+ghost use Rattle.rtm_core.specs.Calls.{touch_of, store_of, store_at, reading, writing, updating, got_of, conflict_aborts, AreThreads};
 ghost use Rattle.rtm_core.specs.Transactions.{thread, seen_by, begun, committed, aborted, kept_of, has_room_in, done_in, entry_of, after, aborts_at, word_seen};
 
 use crate::conflicts::strike_others;
@@ -70,7 +70,8 @@ impl<C: Drop> Rtm<C> {
     /// The word of an access as a thread sees it, or `None` exactly where the access isn't valid. No line is added.
     pub fn peek(&self, t: Tid, addr: u64, size: Size) -> Option<u64>
         requires { t.0 < thread_limit }
-        ensures { result ≡ read_of (seen_by self.now t.0) addr (bytes size) }
+        ensures word { result ≡ read_of (seen_by self.now t.0) addr (bytes size) }
+        ensures below { IfSome result (λ word. word < 2 ^ (8 * bytes size)) }
     {
         self.slots[t.0 as usize].read(&self.image, addr, size)
     }
@@ -122,6 +123,7 @@ impl<C: Drop> Rtm<C> {
         ensures unchanged { OnErr result ((self.new ≡ self.old) × (out.new.items ≡ out.old.items)) }
         ensures succeeds { vec_len out.old + thread_limit ≤ vec_capacity out.old → IsOk result }
         ensures capacity { vec_capacity out.old ≤ vec_capacity out.new }
+        ensures threads { AreThreads out.old.items → AreThreads out.new.items }
     {
         if !self.slots[t.0 as usize].has_room(access) {
             return Ok(Got::Overflow);
@@ -167,6 +169,7 @@ impl<C: Drop> Rtm<C> {
         ensures unchanged { OnErr result ((self.new ≡ self.old) × (out.new.items ≡ out.old.items)) }
         ensures succeeds { vec_len out.old + thread_limit ≤ vec_capacity out.old → IsOk result }
         ensures capacity { vec_capacity out.old ≤ vec_capacity out.new }
+        ensures threads { AreThreads out.old.items → AreThreads out.new.items }
     {
         let Some(word) = self.peek(t, addr, size) else {
             return Ok(Got::Trap);
@@ -197,6 +200,7 @@ impl<C: Drop> Rtm<C> {
         ensures unchanged { OnErr result ((self.new ≡ self.old) × (out.new.items ≡ out.old.items)) }
         ensures succeeds { vec_len out.old + thread_limit ≤ vec_capacity out.old → IsOk result }
         ensures capacity { vec_capacity out.old ≤ vec_capacity out.new }
+        ensures threads { AreThreads out.old.items → AreThreads out.new.items }
     {
         if !self.image.valid(addr, size) {
             return Ok(Got::Trap);
@@ -228,6 +232,7 @@ impl<C: Drop> Rtm<C> {
         ensures unchanged { OnErr result ((self.new ≡ self.old) × (out.new.items ≡ out.old.items)) }
         ensures succeeds { vec_len out.old + thread_limit ≤ vec_capacity out.old → IsOk result }
         ensures capacity { vec_capacity out.old ≤ vec_capacity out.new }
+        ensures threads { AreThreads out.old.items → AreThreads out.new.items }
     {
         let Some(word) = self.peek(t, addr, size) else {
             return Ok(Got::Trap);

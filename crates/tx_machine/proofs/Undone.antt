@@ -1,8 +1,9 @@
 -- The threads that an access of another aborts: what the code makes of them one by one is what the definitions make of all at once.
-use Rattle.std.proofs.Common.{ℕ, zero, suc, ◌≡◌, ◌≢◌, ◌∙◌, ◌+◌, ◌<◌, ◌≤◌, Bool, true, false, not, ◌&&◌, ◌||◌, List, [], ◌∷◌, ◌++◌, map, append-nil, append_assoc, length, Option, Some, None, slice_get, slice_set, refl, ap, sym, subst, arith, nat_eq}
+use Rattle.std.proofs.Common.{ℕ, zero, suc, ◌≡◌, ◌≢◌, ◌∙◌, ◌+◌, ◌<◌, ◌≤◌, Bool, true, false, not, ◌&&◌, ◌||◌, List, [], ◌∷◌, ◌++◌, map, append-nil, append_assoc, length, Option, Some, None, slice_get, slice_set, slice_index_or, refl, ap, sym, subst, arith, nat_eq}
 use Rattle.std.specs.Option.{option_map_or}
 use Rattle.std.proofs.lemmas.Bool.{eqb-true, eq-eqb}
 use Rattle.std.proofs.lemmas.List.{length-append}
+use Rattle.ir_layout.specs.Memory.{thread_limit}
 use Rattle.mem_image.specs.Touches.{Touch}
 use Rattle.process.specs.declared.state.CallStack.{CallStack}
 use Rattle.hard_frames.specs.declared.state.Frame.{Frame}
@@ -12,18 +13,54 @@ use Rattle.tx_runtime.specs.declared.words.Mode.TheVariants.{Out, In, Plain}
 use Rattle.rtm_core.specs.declared.Aborted.{Aborted}
 use Rattle.rtm_core.specs.Footprint.{conflicts}
 use Rattle.rtm_core.specs.Transactions.{Transaction, kept_of, meets, strikes, none_if, spared_from, joined_if, struck_from}
-use Rattle.rtm_core.specs.Calls.{conflict_aborts}
-use Rattle.hard_meaning.specs.State.{Worker}
-use Rattle.hard_meaning.specs.Aborts.{Conflict, Claim, aborted_if, spared}
-use Rattle.tx_machine.specs.Own.{OwnParts, once_undone}
-use Rattle.tx_machine.specs.Joined.{joined_one, joined}
+use Rattle.rtm_core.specs.Calls.{aborted_with, conflict_status, conflict_aborts, AreThreads}
+use Rattle.hard_meaning.specs.State.{Mode, Free, Inside, Worker}
+use Rattle.hard_meaning.specs.Aborts.{Conflict, Claim, aborted, is_in_the_way, aborted_if, spared}
+use Rattle.tx_machine.specs.Own.{OwnParts, once_undone, undone_in}
+use Rattle.tx_machine.specs.Joined.{mode_with, joined_one, joined}
 use Rattle.tx_machine.specs.Undone.{HeldParts, undone_own, undone_at, undone_all, own_all, watches_all}
-use Rattle.tx_machine.proofs.Joined.{set-same}
+use Rattle.tx_machine.proofs.Joined.{set-joined, set-same}
 
 -- each list goes by itself
 pub undone-apart : (list : List (Aborted (CallStack Frame))) (s : HeldParts) → undone_all list s ≡ record { own = own_all list s.own; watches = watches_all list s.watches }
 undone-apart [] s = refl
 undone-apart (a ∷ rest) s = ap (undone_at a) (undone-apart rest s)
+
+-- ---- the last one first
+
+pub own-last : (front : List (Aborted (CallStack Frame))) (a : Aborted (CallStack Frame)) (ws : List OwnParts)
+    → own_all (front ++ a ∷ []) ws ≡ own_all front (undone_own ws a.tid.0 a.keep)
+own-last [] a ws = refl
+own-last (b ∷ front) a ws = ap (λ (list : List OwnParts). undone_own list b.tid.0 b.keep) (own-last front a ws)
+
+-- a thread that is there, or isn't
+pub undone-there : (ws : List OwnParts) (u : ℕ) (kept : CallStack Frame) (w : OwnParts) → u < length ws → w ≡ slice_index_or ws u w
+    → undone_own ws u kept ≡ slice_set ws u (once_undone Conflict kept w)
+undone-there ws u kept w within is = ap (λ (o : Option OwnParts). option_map_or (λ v. slice_set ws u (once_undone Conflict kept v)) o ws) (there ws u w within is)
+  where
+    there : (ws : List OwnParts) (u : ℕ) (w : OwnParts) → u < length ws → w ≡ slice_index_or ws u w → slice_get ws u ≡ Some w
+    there [] u w within is = absurd (omega (arith, within))
+    there (v ∷ ws) zero w within is = ap Some (sym is)
+    there (v ∷ ws) (suc u) w within is = there ws u w (omega (arith, within)) is
+
+pub undone-nowhere : (ws : List OwnParts) (u : ℕ) (kept : CallStack Frame) → (u < length ws → ⊥) → undone_own ws u kept ≡ ws
+undone-nowhere ws u kept none = ap (λ (o : Option OwnParts). option_map_or (λ v. slice_set ws u (once_undone Conflict kept v)) o ws) (past ws u none)
+  where
+    past : (ws : List OwnParts) (u : ℕ) → (u < length ws → ⊥) → slice_get ws u ≡ None
+    past [] zero none = refl
+    past [] (suc u) none = refl
+    past (v ∷ ws) zero none = absurd (none (omega arith))
+    past (v ∷ ws) (suc u) none = past ws u (λ within. none (omega (arith, within)))
+
+pub watches-last : (front : List (Aborted (CallStack Frame))) (a : Aborted (CallStack Frame)) (ks : List WatchParts)
+    → watches_all (front ++ a ∷ []) ks ≡ watches_all front (slice_set ks a.tid.0 nothing_watched)
+watches-last [] a ks = refl
+watches-last (b ∷ front) a ks = ap (λ (list : List WatchParts). slice_set list b.tid.0 nothing_watched) (watches-last front a ks)
+
+pub threads-last : (front : List (Aborted (CallStack Frame))) (a : Aborted (CallStack Frame)) → AreThreads (front ++ a ∷ [])
+    → AreThreads front × (a.tid.0 < thread_limit)
+threads-last [] a all = (tt, all.0)
+threads-last (b ∷ front) a all = let rest = threads-last front a all.1 in ((all.0, rest.0), rest.1)
 
 -- ---- all at once
 

@@ -3,13 +3,19 @@
 --
 -- Choices: what a transaction kept and touched stands in memory under transactions, and what it watches and holds with lock elision. What belongs to a transaction
 -- has no meaning while none is open. A thread has aborted fewer transactions of each cause than it has begun, so no count runs over.
-use Rattle.std.specs.Prelude.{ℕ, suc, ◌≤◌, ◌+◌, Bool, List, [], Option, Some, None}
+use Rattle.std.specs.Prelude.{ℕ, suc, ◌≤◌, ◌+◌, ◌-◌, Bool, true, false, List, [], ◌++◌, Option, Some, None}
 use Rattle.ir_core.specs.declared.types.Ty.{Ty}
 use Rattle.ir_core.specs.declared.types.Loc.{Loc}
+use Rattle.ir_core.specs.declared.values.Side.{Side}
 use Rattle.ir_core.specs.declared.values.Side.TheVariants.{S}
+use Rattle.inst_meaning.specs.declared.actions.Action.{Action}
+use Rattle.inst_meaning.specs.declared.actions.Cause.{Cause}
 use Rattle.inst_meaning.specs.Registers.{get}
 use Rattle.process.specs.State.{in_frame}
-use Rattle.hard_frames.specs.Frames.{passed, resulted}
+use Rattle.process.specs.Outcome.{failure, thread_after}
+use Rattle.process.specs.code.Moves.{where_done}
+use Rattle.hard_ir.specs.Hardened.{HardParts}
+use Rattle.hard_frames.specs.Frames.{frames, passed, resulted}
 use Rattle.hard_meaning.specs.Checks.{same_word}
 use Rattle.process.specs.declared.state.CallStack.{CallStack}
 use Rattle.process.specs.declared.state.Thread.{Thread}
@@ -20,11 +26,16 @@ use Rattle.tx_runtime.specs.declared.words.Act.{Act}
 use Rattle.tx_runtime.specs.declared.words.Act.TheVariants.{Nothing, Xbegin, Xend}
 use Rattle.tx_runtime.specs.declared.words.Mode as runtime
 use Rattle.tx_runtime.specs.declared.words.Mode.TheVariants.{Out, In, Plain}
-use Rattle.tx_runtime.specs.Words.{WordsParts, opening_words, at_stake, begin_act, begun, ticked, undone}
+use Rattle.tx_runtime.specs.Words.{WordsParts, opening_words, at_stake, begin_act, begun, ended, ticked, undone}
 use Rattle.hard_meaning.specs.Aborts as meaning
 use Rattle.hard_meaning.specs.State.{no_aborts}
 use Rattle.tx_machine.specs.declared.workers.Status.{Status}
 use Rattle.tx_machine.specs.declared.workers.Status.TheVariants.{Mismatch, Locked, Conflict, Overflow, Other}
+
+-- the numbers of upsets that struck since its transaction began, and of those that no abort can undo, the last first
+pub record MarksParts : Type 0 where
+  pub struck : List ℕ
+  pub hits : List ℕ
 
 pub record OwnParts : Type 0 where
   pub thread : Thread Frame
@@ -93,9 +104,19 @@ kept_thread Ended w = None
 abbrev pub once_ticked : ℕ → OwnParts → OwnParts
 once_ticked work w = once_passed (record w { words = ticked work w.words })
 
+-- its transaction commits, or it has none: it is outside
+abbrev pub once_ended : OwnParts → OwnParts
+once_ended w = record w { words = ended w.words }
+
+abbrev pub once_committed : OwnParts → OwnParts
+once_committed w = record w { words = ended w.words; struck = []; hits = w.struck ++ w.hits }
+
 -- a turn more waits for its transaction to commit
 abbrev pub once_pending : OwnParts → OwnParts
 once_pending w = record w { pending = suc w.pending }
+
+abbrev pub once_unpending : OwnParts → OwnParts
+once_unpending w = record w { pending = w.pending - 1 }
 
 -- ---- checks and copies
 
@@ -133,3 +154,23 @@ undone_in In status kept w = record w { thread = Running kept; words = undone w.
 
 abbrev pub once_undone : meaning.Status → CallStack Frame → OwnParts → OwnParts
 once_undone status kept w = undone_in w.words.mode status kept w
+
+-- ---- actions without memory
+
+abbrev pub stack_of : Thread Frame → Option (CallStack Frame)
+stack_of (Running stack) = Some stack
+stack_of (Exiting n) = None
+stack_of Ended = None
+
+-- why a thread can't do an action, where it can't
+abbrev pub failure_in : HardParts → ℕ → Thread Frame → Action → Option Cause
+failure_in h t (Running stack) action = failure (frames h) [] t stack action
+failure_in h t (Exiting n) action = None
+failure_in h t Ended action = None
+
+-- and what it is otherwise
+abbrev pub moved_thread : HardParts → ℕ → Option (Side × Loc) → Action → Thread Frame → Thread Frame
+moved_thread h t target action (Running stack) =
+    where_done (failure (frames h) [] t stack action) (thread_after (frames h) target stack action 0) (Running stack)
+moved_thread h t target action (Exiting n) = Exiting n
+moved_thread h t target action Ended = Ended

@@ -3,6 +3,8 @@
 //! Definitions: those of `hard_meaning`. How the code keeps a thread stands in `specs/Own.antt`.
 #![tactic(auto)]
 
+mod conflicts;
+mod core;
 mod marks;
 mod records;
 mod strikes;

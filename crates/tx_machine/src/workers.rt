@@ -1,17 +1,19 @@
 //! Threads, each with what an abort of it changes.
-ghost use Rattle.std.specs.Prelude.{◌≡◌, ◌+◌, ◌<◌, ◌^◌, IfOk, OnOk, OnErr};
+ghost use Rattle.std.specs.Prelude.{◌≡◌, ◌+◌, ◌<◌, ◌^◌, None, IfOk, OnOk, OnErr};
 ghost use Rattle.std.specs.Option.{is_some};
 ghost use Rattle.inst_meaning.specs.Registers.{get};
+ghost use Rattle.process.specs.Outcome.{touch_of};
 ghost use Rattle.process.specs.code.Threads.{CanPass};
 ghost use Rattle.hard_meaning.specs.Checks.{same_word};
 ghost use Rattle.hard_meaning.specs.Aborts.{status_word};
-ghost use Rattle.tx_machine.specs.Own.{meant, new_own, once_passed, kept_thread, once_begun, once_ticked, once_pending, compared_words, compared_in, once_copied, copied_in, copied_thread, once_undone};
+ghost use Rattle.tx_machine.specs.Own.{meant, new_own, once_passed, kept_thread, once_begun, once_ticked, once_ended, once_committed, once_pending, once_unpending, compared_words, compared_in, once_copied, copied_in, copied_thread, failure_in, moved_thread, once_undone};
 
 use crate::marks::Marks;
-use hard_frames::{Aborts, Frame};
+use hard_frames::{Aborts, Frame, Program, Words as Room};
 use hard_ir::register_bits;
-use ir_core::{Loc, Ty};
-use process::{CallStack, Thread};
+use inst_meaning::{Action, Cause};
+use ir_core::{Loc, Side, Tid, Ty};
+use process::{CallStack, Local, Thread};
 use std::alloc::{AllocError, Global};
 use std::marker::Model;
 use tx_runtime::{Act, Mode, Words};
@@ -67,21 +69,17 @@ fn compare(frame: &mut Frame, ty: &Ty, reg: Loc) -> Result<Option<bool>, AllocEr
     Ok(Some(same_word(ty, master, shadow)))
 }
 
-// The shadow of a register becomes its master, and the frame passes its instruction; `false` exactly where the master has no word.
-fn copy(frame: &mut Frame, reg: Loc) -> Result<bool, AllocError>
+// The shadow of a register becomes its master where that has a word, and the frame passes its instruction.
+fn copy(frame: &mut Frame, reg: Loc) -> Result<(), AllocError>
     requires { frame.old.index + 1 < 2 ^ 64 }
-    ensures can { IfOk result (λ can. can ≡ is_some (get frame.old.masters reg.0)) }
     ensures ok { OnOk result (frame.new ≡ once_copied (get frame.old.masters reg.0) reg frame.old) }
     ensures err { OnErr result (frame.new ≡ frame.old) }
 {
-    match frame.masters.get(reg) {
-        Some(word) => {
-            frame.shadows.assign(Some(reg), word)?;
-            frame.index += 1;
-            Ok(true)
-        }
-        None => Ok(false),
+    if let Some(word) = frame.masters.get(reg) {
+        frame.shadows.assign(Some(reg), word)?;
+        frame.index += 1;
     }
+    Ok(())
 }
 
 /// A thread, the runtime's words of it, its aborts by cause, how many transactions it has begun, and the upsets in it that no abort can undo.
@@ -93,8 +91,7 @@ pub(crate) struct Worker {
     pub(crate) aborts: Aborts,
     pub(crate) begun: u64,
     pub(crate) pending: u64,
-    pub(crate) struck: Marks,
-    pub(crate) hits: Marks,
+    pub(crate) marks: Marks,
 }
 
 impl Model for Worker {
@@ -108,8 +105,8 @@ impl Model for Worker {
       aborts = w.aborts;
       begun = w.begun;
       pending = w.pending;
-      struck = w.struck;
-      hits = w.hits;
+      struck = w.marks.struck;
+      hits = w.marks.hits;
     } };
 
     ghost invariant = { λ w. AreCounted (record {
@@ -118,8 +115,8 @@ impl Model for Worker {
       aborts = w.aborts;
       begun = w.begun;
       pending = w.pending;
-      struck = w.struck;
-      hits = w.hits;
+      struck = w.marks.struck;
+      hits = w.marks.hits;
     }) };
 }
 
@@ -139,8 +136,7 @@ impl Worker {
             },
             begun: 0,
             pending: 0,
-            struck: Marks::new(alloc),
-            hits: Marks::new(alloc),
+            marks: Marks::new(alloc),
         }
     }
 
@@ -174,7 +170,7 @@ impl Worker {
             Act::Xbegin => {
                 self.begun = begun;
                 self.pending = 0;
-                self.struck.clear();
+                self.marks.forget();
                 Ok(Some(kept))
             }
             Act::Nothing | Act::Xend => Ok(None),
@@ -190,6 +186,21 @@ impl Worker {
         self.pass();
     }
 
+    /// It is outside, and has no transaction to end.
+    pub(crate) fn end(&mut self)
+        ensures { self.new ≡ once_ended self.old }
+    {
+        self.words.end();
+    }
+
+    /// Its transaction commits.
+    pub(crate) fn commit(&mut self)
+        ensures { self.new ≡ once_committed self.old }
+    {
+        self.words.end();
+        self.marks.commit();
+    }
+
     /// One turn more waits for its transaction to commit; 2^64 are past all memory.
     pub(crate) fn retire(&mut self) -> Result<(), AllocError>
         ensures ok { OnOk result (self.new ≡ once_pending self.old) }
@@ -200,6 +211,13 @@ impl Worker {
         };
         self.pending = pending;
         Ok(())
+    }
+
+    /// The last turn that was to wait doesn't.
+    pub(crate) fn unretire(&mut self)
+        ensures { self.new ≡ once_unpending self.old }
+    {
+        self.pending = self.pending.saturating_sub(1);
     }
 
     /// Whether both sides of a register have the same word of a type, where both have one.
@@ -213,17 +231,56 @@ impl Worker {
         }
     }
 
-    /// The shadow of a register becomes its master, and the thread passes its instruction. The answer is `false` exactly where the master has
-    /// no word; then, and for want of memory, nothing changes.
-    pub(crate) fn copy(&mut self, reg: Loc) -> Result<bool, AllocError>
+    /// Does an action without memory. The answer is why it can't, where it can't; then, and for want of memory, nothing changes.
+    pub(crate) fn act(
+        &mut self,
+        alloc: Global,
+        program: &Program<'_>,
+        room: &mut Room,
+        t: Tid,
+        target: Option<(Side, Loc)>,
+        action: &Action,
+    ) -> Result<Option<Cause>, AllocError>
+        requires pass { CanPass (λ frame. frame.index + 1 < 2 ^ 64) self.old.thread }
+        requires apart { touch_of action.now ≡ None }
+        ensures cause { IfOk result (λ cause. cause ≡ failure_in program.now t.0 self.old.thread action.now) }
+        ensures ok { OnOk result (self.new ≡ record self.old { thread = moved_thread program.now t.0 target action.now self.old.thread }) }
+        ensures err { OnErr result (self.new ≡ self.old) }
+    {
+        let local = match &mut self.thread {
+            Thread::Running(stack) => stack.act_apart(alloc, program, room, t, target, action)?,
+            Thread::Exiting(_) | Thread::Ended => Local::Done,
+        };
+        match local {
+            Local::Done => Ok(None),
+            Local::Returned(word) => {
+                self.thread = Thread::Exiting(word);
+                Ok(None)
+            }
+            Local::Failed(cause) => Ok(Some(cause)),
+        }
+    }
+
+    /// Whether the master of a register has a word.
+    pub(crate) fn has_word(&self, reg: Loc) -> bool
+        ensures { result ≡ is_some (copied_in self.now.thread reg) }
+    {
+        match &self.thread {
+            Thread::Running(stack) => stack.frame.masters.get(reg).is_some(),
+            Thread::Exiting(_) | Thread::Ended => false,
+        }
+    }
+
+    /// The shadow of a register becomes its master where that has a word, and the thread passes its instruction. For want of memory nothing
+    /// changes.
+    pub(crate) fn copy(&mut self, reg: Loc) -> Result<(), AllocError>
         requires { CanPass (λ frame. frame.index + 1 < 2 ^ 64) self.old.thread }
-        ensures can { IfOk result (λ can. can ≡ is_some (copied_in self.old.thread reg)) }
         ensures ok { OnOk result (self.new ≡ record self.old { thread = copied_thread self.old.thread reg }) }
         ensures err { OnErr result (self.new ≡ self.old) }
     {
         match &mut self.thread {
             Thread::Running(stack) => copy(&mut stack.frame, reg),
-            Thread::Exiting(_) | Thread::Ended => Ok(false),
+            Thread::Exiting(_) | Thread::Ended => Ok(()),
         }
     }
 

@@ -49,3 +49,10 @@ pub mod Strikes
 pub mod Events
 pub mod Results
 pub mod Headline
+pub mod GoodRuns
+pub mod GoodSum
+pub mod PlainTypes
+pub mod AcceptedSamples
+pub mod GoodThreads
+pub mod GoodRows
+pub mod GoodPrograms
