@@ -3,3 +3,6 @@ pub mod Accesses
 pub mod Cuts
 pub mod Told
 pub mod Undone
+pub mod StruckFrames
+pub mod Targets
+pub mod Standing

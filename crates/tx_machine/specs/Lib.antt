@@ -3,3 +3,5 @@ pub mod Joined
 pub mod Undone
 pub mod Core
 pub mod Resolved
+pub mod Struck
+pub mod Log

@@ -6,4 +6,6 @@
 mod conflicts;
 mod core;
 mod marks;
+mod records;
+mod strikes;
 mod workers;
