@@ -10,10 +10,14 @@ use Rattle.ir_core.specs.declared.values.Side.{Side}
 use Rattle.ir_core.specs.declared.values.Side.TheVariants.{S}
 use Rattle.inst_meaning.specs.declared.actions.Action.{Action}
 use Rattle.inst_meaning.specs.declared.actions.Cause.{Cause}
+use Rattle.inst_meaning.specs.declared.actions.Request.{Request}
+use Rattle.inst_meaning.specs.declared.actions.Reply.{Reply}
+use Rattle.inst_meaning.specs.declared.actions.Reply.TheVariants.{Waits}
+use Rattle.inst_meaning.specs.World.{WorldParts, asked_of}
 use Rattle.inst_meaning.specs.Registers.{get}
 use Rattle.process.specs.State.{in_frame}
-use Rattle.process.specs.Outcome.{failure, thread_after}
-use Rattle.process.specs.code.Moves.{where_done}
+use Rattle.process.specs.Outcome.{failure, thread_after, called}
+use Rattle.process.specs.code.Moves.{where_done, answered}
 use Rattle.hard_ir.specs.Hardened.{HardParts}
 use Rattle.hard_frames.specs.Frames.{frames, passed, resulted}
 use Rattle.hard_meaning.specs.Checks.{same_word}
@@ -174,3 +178,26 @@ moved_thread h t target action (Running stack) =
     where_done (failure (frames h) [] t stack action) (thread_after (frames h) target stack action 0) (Running stack)
 moved_thread h t target action (Exiting n) = Exiting n
 moved_thread h t target action Ended = Ended
+
+-- ---- requests to the environment
+
+abbrev pub reply_in : Request → ℕ → WorldParts → Thread Frame → Reply
+reply_in request t world (Running stack) = (asked_of request t world).1
+reply_in request t world (Exiting n) = Waits
+reply_in request t world Ended = Waits
+
+abbrev pub world_in : Request → ℕ → WorldParts → Thread Frame → WorldParts
+world_in request t world (Running stack) = (asked_of request t world).0
+world_in request t world (Exiting n) = world
+world_in request t world Ended = world
+
+abbrev pub asked_thread : HardParts → Option (Side × Loc) → Request → ℕ → WorldParts → Thread Frame → Thread Frame
+asked_thread h target request t world (Running stack) = in_frame stack (answered (frames h) target (asked_of request t world).1 stack.frame)
+asked_thread h target request t world (Exiting n) = Exiting n
+asked_thread h target request t world Ended = Ended
+
+-- a call is done, with this result
+abbrev pub called_thread : HardParts → Option (Side × Loc) → ℕ → Thread Frame → Thread Frame
+called_thread h target n (Running stack) = called (frames h) target stack n
+called_thread h target n (Exiting k) = Exiting k
+called_thread h target n Ended = Ended

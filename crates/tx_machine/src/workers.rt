@@ -6,14 +6,14 @@ ghost use Rattle.process.specs.Outcome.{touch_of};
 ghost use Rattle.process.specs.code.Threads.{CanPass};
 ghost use Rattle.hard_meaning.specs.Checks.{same_word};
 ghost use Rattle.hard_meaning.specs.Aborts.{status_word};
-ghost use Rattle.tx_machine.specs.Own.{meant, new_own, once_passed, kept_thread, once_begun, once_ticked, once_ended, once_committed, once_pending, once_unpending, compared_words, compared_in, once_copied, copied_in, copied_thread, failure_in, moved_thread, once_undone};
+ghost use Rattle.tx_machine.specs.Own.{meant, new_own, once_passed, kept_thread, once_begun, once_ticked, once_ended, once_committed, once_pending, once_unpending, compared_words, compared_in, once_copied, copied_in, copied_thread, failure_in, moved_thread, reply_in, world_in, asked_thread, called_thread, once_undone};
 
 use crate::marks::Marks;
 use hard_frames::{Aborts, Frame, Program, Words as Room};
 use hard_ir::register_bits;
-use inst_meaning::{Action, Cause};
+use inst_meaning::{Action, Cause, Reply, Request, World};
 use ir_core::{Loc, Side, Tid, Ty};
-use process::{CallStack, Local, Thread};
+use process::{CallStack, Code, Local, Thread};
 use std::alloc::{AllocError, Global};
 use std::marker::Model;
 use tx_runtime::{Act, Mode, Words};
@@ -259,6 +259,44 @@ impl Worker {
                 Ok(None)
             }
             Local::Failed(cause) => Ok(Some(cause)),
+        }
+    }
+
+    /// Asks the environment for something. Where it answers, the instruction is done with that result. For want of memory nothing changes.
+    pub(crate) fn ask(
+        &mut self,
+        program: &Program<'_>,
+        world: &mut World,
+        t: Tid,
+        target: Option<(Side, Loc)>,
+        request: Request,
+    ) -> Result<Reply, AllocError>
+        requires { CanPass (λ frame. frame.index + 1 < 2 ^ 64) self.old.thread }
+        ensures reply { IfOk result (λ reply. reply ≡ reply_in request t.0 world.old self.old.thread) }
+        ensures world { OnOk result (world.new ≡ world_in request t.0 world.old self.old.thread) }
+        ensures ok { OnOk result (self.new ≡ record self.old { thread = asked_thread program.now target request t.0 world.old self.old.thread }) }
+        ensures err { OnErr result ((self.new ≡ self.old) × (world.new ≡ world.old)) }
+    {
+        match &mut self.thread {
+            Thread::Running(stack) => program.ask(&mut stack.frame, world, request, t, target),
+            Thread::Exiting(_) | Thread::Ended => Ok(Reply::Waits),
+        }
+    }
+
+    /// A call is done, with this result. For want of memory nothing changes.
+    pub(crate) fn finish_call(
+        &mut self,
+        program: &Program<'_>,
+        target: Option<(Side, Loc)>,
+        word: u64,
+    ) -> Result<(), AllocError>
+        requires { CanPass (λ frame. frame.index + 1 < 2 ^ 64) self.old.thread }
+        ensures ok { OnOk result (self.new ≡ record self.old { thread = called_thread program.now target word self.old.thread }) }
+        ensures err { OnErr result (self.new ≡ self.old) }
+    {
+        match &mut self.thread {
+            Thread::Running(stack) => { program.finish(&mut stack.frame, target, u128::from(word)) }
+            Thread::Exiting(_) | Thread::Ended => Ok(()),
         }
     }
 
