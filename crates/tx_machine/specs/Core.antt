@@ -1,5 +1,5 @@
 -- All that runs, part by part, and what the machine's steps do to it, as the code does them.
-use Rattle.std.specs.Prelude.{ℕ, ◌+◌, ◌-◌, ◌<◌, ◌^◌, ◌≡◌, OnSome, Bool, true, false, not, List, [], ◌∷◌, ◌++◌, Option, Some, None, length, take, replicate, slice_get, slice_set}
+use Rattle.std.specs.Prelude.{ℕ, zero, suc, nat_eq, ◌&&◌, ◌+◌, ◌-◌, ◌<◌, ◌^◌, ◌≡◌, OnSome, Bool, true, false, not, List, [], ◌∷◌, ◌++◌, Option, Some, None, length, take, replicate, slice_get, slice_set}
 use Rattle.std.specs.Option.{option_map, option_map_or, is_some}
 use Rattle.ir_core.specs.declared.types.Tid.{Tid}
 use Rattle.ir_core.specs.declared.types.Ty.{Ty}
@@ -21,6 +21,7 @@ use Rattle.hard_frames.specs.declared.outcome.Stop.{Stop}
 use Rattle.hard_frames.specs.declared.outcome.Stop.TheVariants.{Fail, Trap}
 use Rattle.hard_frames.specs.declared.state.Frame.{Frame}
 use Rattle.hard_frames.specs.Places.{place_text}
+use Rattle.line_sets.specs.Sets.{has}
 use Rattle.elide.specs.Watches.{WatchParts, nothing_watched, watch_of, is_some_held}
 use Rattle.tx_runtime.specs.Words.{cuts}
 use Rattle.mem_image.specs.Touches.{Touch, Store}
@@ -296,3 +297,21 @@ alone_as None retires target action t p = core_finished action t (core_done targ
 
 abbrev pub core_alone : Bool → Option (Side × Loc) → Action → ℕ → CoreParts → CoreParts
 core_alone retires target action t p = alone_as (failure_at (core_told retires t p) t action) retires target action t p
+
+-- ---- mutexes that others take
+
+-- a thread that watches the mutex, other than the one that takes it, is aborted
+abbrev pub watcher_if : Bool → ℕ → CoreParts → CoreParts
+watcher_if true u p = core_aborted Conflict u p
+watcher_if false u p = p
+
+abbrev pub watches_other : CoreParts → ℕ → ℕ → ℕ → Bool
+watches_other p t address u = not (nat_eq u t) && has (watch_of p.watches u).watched address
+
+-- so are the first so many threads
+abbrev pub watchers_aborted : ℕ → ℕ → ℕ → CoreParts → CoreParts
+watchers_aborted zero t address p = p
+watchers_aborted (suc u) t address p = watcher_if (watches_other (watchers_aborted u t address p) t address u) u (watchers_aborted u t address p)
+
+abbrev pub core_taken : ℕ → ℕ → CoreParts → CoreParts
+core_taken address t p = watchers_aborted (length p.own) t address p

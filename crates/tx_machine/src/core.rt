@@ -10,7 +10,7 @@ ghost use Rattle.rtm_core.specs.Transactions.{entry_of, seen_by, word_seen};
 ghost use Rattle.tx_machine.specs.Resolved.{resolved_access};
 ghost use Rattle.tx_machine.specs.Own.{meant, once_passed, once_ticked};
 ghost use Rattle.hard_meaning.specs.Checks.{is_active};
-ghost use Rattle.tx_machine.specs.Core.{CanPassIn, BeginsOutside, with_own, is_open, place_in, core_aborted, core_failed, core_trapped, core_begun, core_closed, can_close, core_ended, core_cut, compared_at, core_checked, copied_at, once_copied_at, core_copied, core_touched, failure_simply, failure_at, core_moved, core_done, core_told, core_untold, core_accessed, took, room_for, core_alone};
+ghost use Rattle.tx_machine.specs.Core.{CanPassIn, BeginsOutside, with_own, is_open, place_in, core_aborted, core_failed, core_trapped, core_begun, core_closed, can_close, core_ended, core_cut, compared_at, core_checked, copied_at, once_copied_at, core_copied, core_touched, failure_simply, failure_at, core_moved, core_done, core_told, core_untold, core_accessed, took, room_for, core_alone, watcher_if, watches_other, core_taken};
 
 use crate::conflicts::undo_each;
 use crate::workers::{Status, Worker};
@@ -81,7 +81,8 @@ impl<'a> Core<'a> {
     // The transaction of a thread is aborted, where it has one.
     fn abort(&mut self, t: Tid, status: Status)
         requires { t.0 < length self.old.own }
-        ensures { self.new ≡ core_aborted (meant status) t.0 self.old }
+        ensures parts { self.new ≡ core_aborted (meant status) t.0 self.old }
+        ensures count { length self.new.own ≡ length self.old.own }
     {
         if !self.rtm.xtest(t) {
             return;
@@ -512,6 +513,27 @@ impl<'a> Core<'a> {
                 }
                 Ok(())
             }
+        }
+    }
+
+    // Thread u is aborted where it watches a mutex that another takes.
+    fn abort_watcher(&mut self, u: Tid, t: Tid, address: u64)
+        requires { u.0 < length self.old.own }
+        ensures parts { self.new ≡ watcher_if (watches_other self.old t.0 address u.0) u.0 self.old }
+        ensures count { length self.new.own ≡ length self.old.own }
+    {
+        if u.0 != t.0 && self.elision.watches(u, address) {
+            self.abort(u, Status::Conflict);
+        }
+    }
+
+    // A thread outside has taken a mutex: all others that watch it are aborted.
+    fn abort_watchers(&mut self, t: Tid, address: u64)
+        ensures parts { self.new ≡ core_taken address t.0 self.old }
+        ensures count { length self.new.own ≡ length self.old.own }
+    {
+        for u in 0..self.workers.len() {
+            self.abort_watcher(Tid(u as u32), t, address);
         }
     }
 }

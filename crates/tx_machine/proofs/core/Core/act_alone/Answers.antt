@@ -29,7 +29,7 @@ returns-then-not-access-clause-ok c =
     let moved = c.in-Ok-None.ensures.ok ∙ ap (core_done c.args.target c.args.action.now c.args.t.0) told in
     let why = sym c.in-Ok-None.field-0-is ∙ c.in-Ok-None.ensures.cause ∙ ap (λ (p : CoreParts). failure_at p c.args.t.0 c.args.action.now) told in
     subst (λ (o : Option Cause). c.abort.new.self ≡ alone_as o c.args.retires c.args.target c.args.action.now c.args.t.0 c.args.self.now) why
-    (c.abort.ensures ∙ ap (core_aborted Overflow c.args.t.0) (c.if-not-access.ensures.parts)
+    (c.abort.ensures.parts ∙ ap (core_aborted Overflow c.args.t.0) (c.if-not-access.ensures.parts)
     ∙ ap (λ (b : Bool). finished_as b c.args.t.0 (core_accessed c.args.action.now c.args.t.0 c.move_thread.new.self)) c.if-not-access.ensures.room
     ∙ ap (core_finished c.args.action.now c.args.t.0) moved)
 
