@@ -89,9 +89,7 @@ impl Shadows {
         ensures same { self.new ≡ self.old }
     {
         settle(&mut self.registers, &mut self.due)?;
-        Ok(program
-            .operands(&self.registers)
-            .word_at(w, &Val::Reg(at)))
+        Ok(program.operands(&self.registers).word_at(w, &Val::Reg(at)))
     }
 
     /// A result goes to its register, where there is one. For want of memory nothing changes.

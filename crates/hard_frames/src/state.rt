@@ -86,9 +86,11 @@ impl Frame {
     {
         match val {
             HVal::Reg(reg) => match reg.side {
-                Side::M => Ok(program
-                    .operands(&self.masters)
-                    .word_at(w, &Val::Reg(reg.loc))),
+                Side::M => Ok(
+                    program
+                        .operands(&self.masters)
+                        .word_at(w, &Val::Reg(reg.loc)),
+                ),
                 Side::S => self.shadows.word_at(program, w, reg.loc),
             },
             HVal::Const(val) => {
