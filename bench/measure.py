@@ -48,6 +48,20 @@ def assembler(work):
     return None
 
 
+def optimizer(work):
+    """The newest `opt` that reads `ptr`, which reads, checks and prints a module and changes nothing, and its version."""
+    path = os.path.join(work, "pointer.ll")
+    with open(path, "w") as file:
+        file.write("@p = global ptr null\n")
+    for command in (["opt-16"], ["opt"], ["opt", "-opaque-pointers"]):
+        if shutil.which(command[0]):
+            tried = subprocess.run([*command, "-S", "-o", os.devnull, path], capture_output=True)
+            if tried.returncode == 0 and not tried.stderr:
+                told = printed([command[0], "--version"]).split("LLVM version ")
+                return [*command, "-S", "-o", os.devnull], told[-1].split()[0]
+    return None, None
+
+
 def interpreter(path):
     """LLVM's interpreter for a module, with the flag that version 14 asks for."""
     if not shutil.which("lli"):

@@ -81,7 +81,7 @@ module _ (r : Renaming) (apart : IsApart r.loc) where
       targets (case ∷ cases) = ap (λ (rest : List Loc). renamed_loc r case.1 ∷ rest) (targets cases)
   labels-same inst = refl
 
-  last-same : (body : List Inst) → last_labels (map (renamed_inst r) body) ≡ map (renamed_loc r) (last_labels body)
+  pub last-same : (body : List Inst) → last_labels (map (renamed_inst r) body) ≡ map (renamed_loc r) (last_labels body)
   last-same body =
       ap (λ (n : ℕ). option_map_or labels_of (slice_get (map (renamed_inst r) body) (n - 1)) []) (length-map body (renamed_inst r))
       ∙ ap (λ (o : Option Inst). option_map_or labels_of o []) (slice_get-map (renamed_inst r) body (length body - 1)) ∙ by_inst (slice_get body (length body - 1))
@@ -240,7 +240,7 @@ module _ (r : Renaming) (apart : IsApart r.loc) where
     index-regs : (indices : List (Width × Val)) → flat_map reg_in_index (renamed_index r indices) ≡ map (renamed_loc r) (flat_map reg_in_index indices)
     index-regs = flat-images (λ (index : Width × Val). (index.0, renamed_val r index.1)) reg_in_index reg_in_index (renamed_loc r) (λ index. value-regs index.1)
 
-    inst-regs : (inst : Inst) → regs_in (renamed_inst r inst) ≡ map (renamed_loc r) (regs_in inst)
+    pub inst-regs : (inst : Inst) → regs_in (renamed_inst r inst) ≡ map (renamed_loc r) (regs_in inst)
     inst-regs (insts.Bin dst op flags w a b) = two-regs a b
     inst-regs (insts.Cmp dst pred ty a b) = two-regs a b
     inst-regs (insts.Select dst cond ty a b) = three-regs cond a b
@@ -257,7 +257,7 @@ module _ (r : Renaming) (apart : IsApart r.loc) where
     inst-regs (insts.Ret ty val) = option-regs val
     inst-regs inst = refl
 
-    arms-same : (inst : Inst) → arms_in (renamed_inst r inst) ≡ renamed_arms r (arms_in inst)
+    pub arms-same : (inst : Inst) → arms_in (renamed_inst r inst) ≡ renamed_arms r (arms_in inst)
     arms-same (insts.Phi dst ty arms) = refl
     arms-same inst = refl
 

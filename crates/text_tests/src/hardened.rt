@@ -1,16 +1,21 @@
 //! Hardened modules, line by line: of a `Do` its side, its opcode with its flags, its result and whether it retires; of a check and of
-//! a copy its type and its register. What is wanted is worked out by hand from the rows of the image table.
+//! a copy its type and its register; of a check of memory its type and both operands; of a tick its number. What is wanted is worked out by
+//! hand from the rows of the image table.
 use crate::cases::{Asked, compare};
 use crate::parsed::module_of;
 use check_insert::checks;
-use hard_ir::{HBlock, HInst, Hardened, When};
+use hard_ir::{HBlock, HInst, HVal, Hardened, When};
 use inst_meaning::destination;
-use ir_check::accept;
-use ir_core::{Flags, Func, Inst, Loc, Side, Ty, Width};
+use ir_check::{Accepted, accept};
+use ir_core::{Flags, Func, Inst, Loc, Side, Ty, Val, Width};
+use itoa::Buffer;
+use relaxed_mem::relax;
 use shadow_flow::shadow;
-use std::alloc::Global;
+use std::alloc::{AllocError, Global};
 use std::process::Abort;
 use std::str;
+use tx_place::place;
+use tx_split::split;
 
 /// The columns of a hardened module.
 #[derive(Clone, Copy)]
@@ -19,10 +24,17 @@ pub enum Columns {
     Flow,
     /// Those, and checks.
     Checks,
+    /// The whole table.
+    Whole,
 }
 
 fn word(rt: &impl Abort, out: &mut String, word: &str) {
     out.push_str(word).expect(rt, "no memory for a text");
+}
+
+fn number(rt: &impl Abort, out: &mut String, n: u64) {
+    let mut buffer = Buffer::new();
+    word(rt, out, buffer.format(n));
 }
 
 fn name(rt: &impl Abort, out: &mut String, f: &Func, at: Loc) {
@@ -127,8 +139,40 @@ fn when_word(when: When) -> &'static str {
     }
 }
 
+/// An operand of a check of memory.
+fn operand_text(rt: &impl Abort, out: &mut String, f: &Func, operand: &HVal) {
+    match operand {
+        HVal::Reg(reg) => {
+            word(
+                rt,
+                out,
+                if matches!(reg.side, Side::M) {
+                    " m."
+                } else {
+                    " s."
+                },
+            );
+            name(rt, out, f, reg.loc);
+        }
+        HVal::Const(Val::Int(n)) => {
+            word(rt, out, " ");
+            number(rt, out, *n);
+        }
+        HVal::Const(Val::Null) => word(rt, out, " null"),
+        HVal::Const(Val::Global(_)) => word(rt, out, " @"),
+        HVal::Const(_) => word(rt, out, " .."),
+    }
+}
+
 fn line_text(rt: &impl Abort, out: &mut String, f: &Func, inst: &HInst) {
     match inst {
+        HInst::Cut => word(rt, out, "cut"),
+        HInst::Begin => word(rt, out, "begin"),
+        HInst::End => word(rt, out, "end"),
+        HInst::Tick(work) => {
+            word(rt, out, "tick ");
+            number(rt, out, u64::from(*work));
+        }
         HInst::Do {
             side,
             inst,
@@ -139,7 +183,12 @@ fn line_text(rt: &impl Abort, out: &mut String, f: &Func, inst: &HInst) {
         }
         HInst::Chk { when, ty, reg } => register_text(rt, out, f, when_word(*when), ty, *reg),
         HInst::Mov { ty, reg } => register_text(rt, out, f, "mov ", ty, *reg),
-        _ => word(rt, out, "another"),
+        HInst::ChkMem { ty, ptr, val } => {
+            word(rt, out, "chkmem.tx ");
+            type_text(rt, out, ty);
+            operand_text(rt, out, f, ptr);
+            operand_text(rt, out, f, val);
+        }
     }
 }
 
@@ -156,6 +205,21 @@ fn block_text(rt: &impl Abort, out: &mut String, f: &Func, block: &HBlock) {
     }
 }
 
+/// The hardened module of the whole table.
+fn whole(alloc: Global, accepted: &Accepted) -> Result<Hardened, AllocError> {
+    let flow = shadow(alloc, accepted)?;
+    let checked = checks(alloc, flow)?;
+    let relaxed = relax(alloc, checked)?;
+    let placed = place(alloc, relaxed)?;
+    split(alloc, placed)
+}
+
+/// The hardened module with checks.
+fn checked(alloc: Global, accepted: &Accepted) -> Result<Hardened, AllocError> {
+    let flow = shadow(alloc, accepted)?;
+    checks(alloc, flow)
+}
+
 /// The hardened module of a text.
 fn hardened(rt: &impl Abort, alloc: Global, text: &str, columns: Columns) -> Hardened {
     let accepted = match accept(alloc, module_of(rt, alloc, text)) {
@@ -165,12 +229,13 @@ fn hardened(rt: &impl Abort, alloc: Global, text: &str, columns: Columns) -> Har
             rt.abort()
         }
     };
-    let flow = shadow(alloc, &accepted).expect(rt, "no memory for a module");
+    let made = match columns {
+        Columns::Flow => shadow(alloc, &accepted),
+        Columns::Checks => checked(alloc, &accepted),
+        Columns::Whole => whole(alloc, &accepted),
+    };
     drop(accepted);
-    match columns {
-        Columns::Flow => flow,
-        Columns::Checks => checks(alloc, flow).expect(rt, "no memory for a module"),
-    }
+    made.expect(rt, "no memory for a module")
 }
 
 /// The lines of the hardened module of a text.
@@ -456,6 +521,125 @@ chk i32 r
 m ret *
 ";
 
+/// The whole table: with double loads, late checks, transactions and ticks.
+const WHOLE: &str = "
+== a sum is done on each side and its print is an external call, outside transactions
+declare void @haft_out(i64)
+define i32 @main() {
+  %a = add i64 2, 3
+  call void @haft_out(i64 %a)
+  ret i32 0
+}
+-- 0:
+cut
+begin
+m operator a
+s operator a *
+tick 8
+chk i64 a
+end
+m call *
+begin
+tick 3
+m ret *
+== a plain load is done twice, a plain store is checked before it outside transactions and after it inside, an atomic one before it
+@g = global i64 5
+define i32 @main() {
+  %p = getelementptr i64, ptr @g, i64 0
+  %v = load i64, ptr %p
+  store i64 %v, ptr %p
+  store i64 1, ptr %p
+  store ptr null, ptr @g
+  %t = load atomic i64, ptr %p seq_cst
+  store atomic i64 %t, ptr @g seq_cst
+  ret i32 0
+}
+-- 0:
+cut
+begin
+m getelementptr p
+s getelementptr p *
+m load v
+s load v *
+chk.plain ptr p
+chk.plain i64 v
+m store *
+chk.tx ptr p
+chkmem.tx i64 s.p s.v
+chk.plain ptr p
+m store *
+chk.tx ptr p
+chkmem.tx i64 s.p 1
+m store *
+chkmem.tx ptr @ null
+chk ptr p
+m load t *
+mov i64 t
+chk i64 t
+m store *
+tick 24
+m ret *
+== lock and unlock calls are done inside, a call of the module may be cut after it, a loop head before its first instruction
+@lock = global i64 0
+declare i32 @pthread_mutex_lock(ptr)
+declare i32 @pthread_mutex_unlock(ptr)
+define void @f(i64 %x) {
+  br label %l
+l:
+  %i = phi i64 [ 0, %0 ], [ %j, %l ]
+  %j = add i64 %i, %x
+  %c = icmp ult i64 %j, 9
+  br i1 %c, label %l, label %d
+d:
+  ret void
+}
+define i32 @main() {
+  %a = call i32 @pthread_mutex_lock(ptr @lock)
+  call void @f(i64 3)
+  %b = call i32 @pthread_mutex_unlock(ptr @lock)
+  ret i32 %b
+}
+-- 0:
+mov i64 x
+cut
+begin
+tick 5
+m br *
+l:
+m phi i
+s phi i
+cut
+begin
+m operator j
+s operator j *
+m icmp c
+s icmp c *
+tick 9
+chk i1 c
+m br *
+d:
+tick 2
+m ret *
+0:
+cut
+begin
+tick 4
+m call a *
+mov i32 a
+begin
+tick 4
+m call *
+cut
+begin
+tick 4
+m call b *
+mov i32 b
+begin
+tick 5
+chk i32 b
+m ret *
+";
+
 #[test]
 fn masters_shadows_and_copies_stand_as_the_table_says(rt: HostRuntime) {
     compare(&rt, rt.alloc(), FLOWS, Asked::Hardened(Columns::Flow));
@@ -464,4 +648,9 @@ fn masters_shadows_and_copies_stand_as_the_table_says(rt: HostRuntime) {
 #[test]
 fn checks_stand_before_effects(rt: HostRuntime) {
     compare(&rt, rt.alloc(), CHECKS, Asked::Hardened(Columns::Checks));
+}
+
+#[test]
+fn the_whole_table_stands_as_its_rows_say(rt: HostRuntime) {
+    compare(&rt, rt.alloc(), WHOLE, Asked::Hardened(Columns::Whole));
 }

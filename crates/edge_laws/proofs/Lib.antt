@@ -1,0 +1,16 @@
+pub mod RaisedNumbers
+pub mod Staying
+pub mod Renumbered
+pub mod Ends
+pub mod RaisedTicks
+pub mod Anchors
+pub mod Edged
+pub mod EdgedModules
+pub mod WithEdges
+pub mod EdgeRules
+pub mod EdgeShapes
+pub mod EdgePhis
+pub mod EdgeDefinitions
+pub mod EdgeMeanings
+pub mod EdgeFits
+pub mod EdgedFits

@@ -1,0 +1,5 @@
+pub mod Texts
+pub mod Turns
+pub mod Events
+pub mod Steadiness
+pub mod Outer
