@@ -7,7 +7,9 @@ use Rattle.std.specs.Prelude.{ℕ, suc, List, [], map, Option, Some, None, slice
 use Rattle.std.specs.List.{filter_map, zip}
 use Rattle.std.specs.Option.{option_map, option_and_then}
 use Rattle.ir_core.specs.declared.types.Loc.{Loc}
+use Rattle.ir_core.specs.declared.types.Width.{Width}
 use Rattle.ir_core.specs.declared.values.Side.{Side}
+use Rattle.ir_core.specs.declared.values.Val.TheVariants as values
 use Rattle.ir_core.specs.declared.values.Side.TheVariants.{M, S}
 use Rattle.ir_core.specs.declared.instruction.Inst.{Inst}
 use Rattle.ir_core.specs.declared.instruction.Block.{Block}
@@ -15,11 +17,14 @@ use Rattle.ir_layout.specs.Memory.{LayoutParts, layout_of}
 use Rattle.ir_flow.specs.Edges.{number_of}
 use Rattle.inst_meaning.specs.declared.actions.Action.{Action}
 use Rattle.inst_meaning.specs.Action.{action_of, callees_of, destination}
+use Rattle.inst_meaning.specs.Operands.{word_at}
 use Rattle.inst_meaning.specs.Phis.{phi_words, all_assigned}
 use Rattle.inst_meaning.specs.Registers.{put}
 use Rattle.process.specs.Frames.{Frames}
 use Rattle.src_meaning.specs.State.{params_at}
 use Rattle.hard_ir.specs.declared.instruction.HBlock.{HBlock}
+use Rattle.hard_ir.specs.declared.instruction.HVal.{HVal}
+use Rattle.hard_ir.specs.declared.instruction.HVal.TheVariants as operands
 use Rattle.hard_ir.specs.Hardened.{HardParts}
 use Rattle.hard_frames.specs.declared.state.Frame.{Frame}
 use Rattle.hard_frames.specs.Code.{blocks_at}
@@ -46,6 +51,13 @@ entry_frame h n words mark = record {
   mark = mark;
   waiting = None;
 }
+
+-- ---- operands of checks of memory
+
+-- the word of an operand of a check of memory, at a width
+abbrev pub operand_word : HardParts → Frame → Width → HVal → Option ℕ
+operand_word h frame w (operands.Reg reg) = word_at (layout_of h.heads) (file reg.side frame) w (values.Reg reg.loc)
+operand_word h frame w (operands.Const val) = word_at (layout_of h.heads) [] w val
 
 -- ---- what a frame can do
 

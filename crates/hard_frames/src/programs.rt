@@ -1,7 +1,8 @@
 //! What a machine keeps of its program.
-ghost use Rattle.std.specs.Prelude.{◌≡◌, ◌+◌, ◌<◌, ◌^◌, map, true, IfOk, IfSome, OnOk, OnSome};
+ghost use Rattle.std.specs.Prelude.{◌≡◌, ◌+◌, ◌<◌, ◌^◌, map, true, Some, IfOk, IfSome, OnOk, OnSome, slice_get};
 ghost use Rattle.std.specs.List.{zip};
 ghost use Rattle.std.specs.Option.{option_map, option_copied, is_some};
+ghost use Rattle.ir_core.specs.Module.{FuncParts};
 ghost use Rattle.ir_layout.specs.Limits.{name_at};
 ghost use Rattle.ir_layout.specs.Memory.{layout_of};
 ghost use Rattle.ir_check.specs.Functions.{is_main};
@@ -9,6 +10,7 @@ ghost use Rattle.inst_meaning.specs.Action.{callees_of};
 ghost use Rattle.inst_meaning.specs.Phis.{all_assigned, phi_words};
 ghost use Rattle.mem_image.specs.Opening.{opening};
 ghost use Rattle.src_meaning.specs.State.{main_of};
+ghost use Rattle.hard_ir.specs.Facts.{hard_width};
 ghost use Rattle.hard_frames.specs.Code.{blocks_at, inst_at};
 ghost use Rattle.hard_frames.specs.Frames.{entry_frame};
 ghost use Rattle.hard_frames.specs.Frames.{jumped, landed, phis_on};
@@ -100,7 +102,7 @@ impl<'a> Program<'a> {
     }
 
     /// The blocks of a function, and none where there is no such function.
-    pub fn blocks(&self, function: usize) -> &[HBlock]
+    pub fn blocks(&self, function: usize) -> &'a [HBlock]
         ensures { result.now ≡ blocks_at self.now function }
     {
         if function < self.hardened.module().funcs().len() {
@@ -110,8 +112,20 @@ impl<'a> Program<'a> {
         }
     }
 
+    /// How many bits a register of a function holds, on either side, and 0 where there is no such function.
+    pub fn width(&self, function: usize, reg: Loc) -> u32
+        ensures { (head : FuncParts) → slice_get self.now.heads.funcs function ≡ Some head
+            → result ≡ hard_width head (blocks_at self.now function) reg }
+    {
+        if function < self.hardened.module().funcs().len() {
+            self.hardened.width(function as u32, reg)
+        } else {
+            0
+        }
+    }
+
     /// The instruction at a frame's place.
-    fn inst(&self, frame: &Frame) -> Option<&HInst>
+    pub fn inst(&self, frame: &Frame) -> Option<&'a HInst>
         ensures found { option_copied result ≡ inst_at self.now frame.now }
         ensures within { OnSome result (frame.now.index + 1 < 2 ^ 64) }
     {

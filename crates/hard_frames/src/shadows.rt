@@ -2,6 +2,8 @@
 ghost use Rattle.std.specs.Prelude.{◌≡◌, [], IfOk, OnOk, OnErr, Some, true};
 ghost use Rattle.std.specs.Option.{is_some};
 ghost use Rattle.inst_meaning.specs.Registers.{get};
+ghost use Rattle.inst_meaning.specs.Operands.{word_at};
+ghost use Rattle.ir_core.specs.declared.values.Val.TheVariants as values;
 ghost use Rattle.ir_layout.specs.Memory.{layout_of};
 ghost use Rattle.inst_meaning.specs.Accesses.{IsFitting};
 ghost use Rattle.inst_meaning.specs.Action.{action_of, callees_of};
@@ -12,7 +14,7 @@ ghost use Rattle.hard_frames.specs.Frames.{phis_on};
 use crate::programs::Program;
 use hard_ir::HBlock;
 use inst_meaning::{Action, Registers, Reply, Request, World};
-use ir_core::{Inst, Loc, Side, Tid};
+use ir_core::{Inst, Loc, Side, Tid, Val, Width};
 use std::alloc::{AllocError, Global};
 use std::marker::Model;
 use std::mem;
@@ -32,6 +34,16 @@ impl Model for Shadows {
     ghost Value = { List (Option ℕ) };
 
     ghost view = { λ s. all_assigned s.due.items s.registers };
+}
+
+impl Clone for Shadows {
+    ghost is_clone = { λ shadows copy. copy ≡ shadows };
+
+    fn clone(&self) -> Result<Shadows, AllocError> {
+        let registers = self.registers.clone()?;
+        let due = self.due.clone()?;
+        Ok(Shadows { registers, due })
+    }
 }
 
 // The registers have what is due.
@@ -58,7 +70,7 @@ impl Shadows {
     }
 
     /// The word of a register, where it has one.
-    pub(crate) fn word(&mut self, at: Loc) -> Result<Option<u128>, AllocError>
+    pub fn word(&mut self, at: Loc) -> Result<Option<u128>, AllocError>
         ensures word { IfOk result (λ word. word ≡ get self.old at.0) }
         ensures same { self.new ≡ self.old }
     {
@@ -66,8 +78,22 @@ impl Shadows {
         Ok(self.registers.get(at))
     }
 
+    /// The word of this width of a register, where it has one.
+    pub(crate) fn word_at(
+        &mut self,
+        program: &Program<'_>,
+        w: Width,
+        at: Loc,
+    ) -> Result<Option<u64>, AllocError>
+        ensures word { IfOk result (λ word. word ≡ word_at (layout_of program.now.heads) self.old w (values.Reg at)) }
+        ensures same { self.new ≡ self.old }
+    {
+        settle(&mut self.registers, &mut self.due)?;
+        Ok(program.operands(&self.registers).word_at(w, &Val::Reg(at)))
+    }
+
     /// A result goes to its register, where there is one. For want of memory nothing changes.
-    pub(crate) fn assign(&mut self, dst: Option<Loc>, word: u128) -> Result<(), AllocError>
+    pub fn assign(&mut self, dst: Option<Loc>, word: u128) -> Result<(), AllocError>
         ensures ok { OnOk result (self.new ≡ assigned dst word self.old) }
         ensures err { OnErr result (self.new ≡ self.old) }
     {

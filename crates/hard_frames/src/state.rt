@@ -2,13 +2,14 @@
 ghost use Rattle.std.specs.Prelude.{◌≡◌, OnOk, OnErr, IfOk};
 ghost use Rattle.inst_meaning.specs.Accesses.{IsFitting};
 ghost use Rattle.inst_meaning.specs.World.{asked_of};
-ghost use Rattle.hard_frames.specs.Frames.{given_to, landed, action_on};
+ghost use Rattle.hard_frames.specs.Frames.{given_to, landed, action_on, operand_word};
 ghost use Rattle.hard_frames.specs.Orders.{answered};
 
 use crate::Shadows;
 use crate::programs::Program;
+use hard_ir::HVal;
 use inst_meaning::{Action, Registers, Reply, Request, World};
-use ir_core::{Inst, Loc, Side, Tid};
+use ir_core::{Inst, Loc, Side, Tid, Val, Width};
 use std::alloc::{AllocError, Global};
 
 /// A function at work: its place, two copies of its registers, the stack mark at its start, and the register that waits for the
@@ -24,9 +25,27 @@ pub struct Frame {
     pub waiting: Option<(Side, Loc)>,
 }
 
+impl Clone for Frame {
+    ghost is_clone = { λ frame copy. copy ≡ frame };
+
+    fn clone(&self) -> Result<Frame, AllocError> {
+        let masters = self.masters.clone()?;
+        let shadows = self.shadows.clone()?;
+        Ok(Frame {
+            function: self.function,
+            block: self.block,
+            index: self.index,
+            masters,
+            shadows,
+            mark: self.mark,
+            waiting: self.waiting,
+        })
+    }
+}
+
 impl Frame {
     /// A word goes to a register of a side, where there is one for it. For want of memory nothing changes.
-    pub(crate) fn give(&mut self, dst: Option<(Side, Loc)>, word: u128) -> Result<(), AllocError>
+    pub fn give(&mut self, dst: Option<(Side, Loc)>, word: u128) -> Result<(), AllocError>
         ensures ok { OnOk result (self.new ≡ given_to dst word self.old) }
         ensures err { OnErr result (self.new ≡ self.old) }
     {
@@ -54,8 +73,35 @@ impl Frame {
         Ok(())
     }
 
+    /// The word of an operand of a check of memory, at a width.
+    pub fn operand(
+        &mut self,
+        alloc: Global,
+        program: &Program<'_>,
+        w: Width,
+        val: &HVal,
+    ) -> Result<Option<u64>, AllocError>
+        ensures word { IfOk result (λ word. word ≡ operand_word program.now self.old w val.now) }
+        ensures same { self.new ≡ self.old }
+    {
+        match val {
+            HVal::Reg(reg) => match reg.side {
+                Side::M => Ok(
+                    program
+                        .operands(&self.masters)
+                        .word_at(w, &Val::Reg(reg.loc)),
+                ),
+                Side::S => self.shadows.word_at(program, w, reg.loc),
+            },
+            HVal::Const(val) => {
+                let none = Registers::with_room(alloc, 0)?;
+                Ok(program.operands(&none).word_at(w, val))
+            }
+        }
+    }
+
     /// What an instruction asks for on a side.
-    pub(crate) fn action(
+    pub fn action(
         &mut self,
         alloc: Global,
         program: &Program<'_>,

@@ -16,3 +16,4 @@ pub use hardened::Hardened;
 pub use instruction::{
     HBlock, HBlocks, HFuncs, HInst, HInsts, HPhis, HReg, HVal, LIST_LIMIT, When,
 };
+pub use widths::register_bits;

@@ -37,9 +37,10 @@ fn word_bits(ty: &Ty) -> u32
     }
 }
 
-// How many bits a register of a type has.
-fn register_bits(ty: &Ty) -> u32
-    ensures { result ≡ register_bits ty.now }
+/// How many bits a register of a type has; at most 65.
+pub fn register_bits(ty: &Ty) -> u32
+    ensures bits { result ≡ register_bits ty.now }
+    ensures few { result < 66 }
 {
     match ty {
         Ty::Struct(parts) => match parts.items() {

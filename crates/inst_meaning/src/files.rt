@@ -22,6 +22,15 @@ impl Model for Registers {
     ghost view = { λ r. r.words.items };
 }
 
+impl Clone for Registers {
+    ghost is_clone = { λ registers copy. copy ≡ registers };
+
+    fn clone(&self) -> Result<Registers, AllocError> {
+        let words = self.words.clone()?;
+        Ok(Registers { words })
+    }
+}
+
 // How long a file of this length is once these words went to it.
 fn room_for(len: usize, words: &[(Loc, u64)]) -> usize
     ensures { result ≡ fold (λ room word. max room (word.0.0 + 1)) len words.now }

@@ -21,6 +21,6 @@ pub use actions::{Access, Action, Callee, Cause, Place, Reply, Request, Update};
 pub use calls::callees_of;
 pub use decoding::destination;
 pub use files::Registers;
-pub use operands::Operands;
+pub use operands::{Operands, memory_width, size_of_width};
 pub use phis::phi_count;
 pub use requests::World;

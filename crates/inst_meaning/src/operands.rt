@@ -31,7 +31,7 @@ pub(crate) fn width_of(ty: &Ty) -> Option<Width>
 }
 
 /// The width of the words of a type in memory; a word of one bit stands in none.
-pub(crate) fn memory_width(ty: &Ty) -> Option<Width>
+pub fn memory_width(ty: &Ty) -> Option<Width>
     ensures { result ≡ memory_width ty.now }
 {
     match width_of(ty) {
@@ -41,7 +41,7 @@ pub(crate) fn memory_width(ty: &Ty) -> Option<Width>
 }
 
 /// How many bytes a word takes in memory.
-pub(crate) fn size_of_width(w: Width) -> Size
+pub fn size_of_width(w: Width) -> Size
     ensures { result ≡ size_of_width w }
 {
     match w {
@@ -75,7 +75,7 @@ impl Operands<'_> {
     }
 
     /// The word of this width that a value stands for.
-    pub(crate) fn word_at(&self, w: Width, value: &Val) -> Option<u64>
+    pub fn word_at(&self, w: Width, value: &Val) -> Option<u64>
         ensures value { result ≡ word_at self.now.layout.now self.now.registers.now w value.now }
         ensures below { IfSome result (λ word. word < 2 ^ bits w) }
     {

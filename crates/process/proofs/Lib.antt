@@ -1,3 +1,4 @@
 mod Alone
 mod Outsides
 mod Resumed
+mod Reversed

@@ -1,5 +1,5 @@
 //! The frames that wait for a function to return.
-ghost use Rattle.std.specs.Prelude.{◌≡◌, ◌∷◌, [], true, false, OnOk, OnErr, length};
+ghost use Rattle.std.specs.Prelude.{◌≡◌, ◌∷◌, ◌<◌, [], true, false, Some, OnOk, OnErr, length, slice_get, slice_set};
 ghost use Rattle.process.specs.code.Moves.{first_resumed};
 
 use crate::Code;
@@ -8,7 +8,7 @@ use std::marker::Model;
 use std::mem;
 
 /// Frames that wait, each for the one that it called. Contracts see their list, the last first.
-#[derive(Drop)]
+#[derive(Clone, Drop)]
 pub struct Callers<F> {
     frames: Vec<F>,
 }
@@ -75,6 +75,16 @@ impl<F: Drop> Callers<F> {
             program.resume(caller, word)?;
         }
         Ok(())
+    }
+
+    /// One of them, by how many were entered after it, changes places with another frame.
+    pub fn swap(&mut self, depth: usize, frame: &mut F)
+        requires { depth < length self.old }
+        ensures callers { self.new ≡ slice_set self.old depth frame.old }
+        ensures frame { slice_get self.old depth ≡ Some frame.new }
+    {
+        let at = self.frames.len() - 1 - depth;
+        mem::swap(&mut self.frames[at], frame);
     }
 
     /// The last of them runs in place of the running frame. The answer is `false` exactly where there is none.

@@ -1,5 +1,5 @@
 //! What changes a thread and memory alone.
-ghost use Rattle.std.specs.Prelude.{ℕ, ◌≡◌, ◌+◌, ◌<◌, ◌^◌, ◌*◌, nat_le, nat_lt, suc, ◌∷◌, None, IfOk, OnOk, OnErr, unwrap_or};
+ghost use Rattle.std.specs.Prelude.{ℕ, [], ◌≡◌, ◌+◌, ◌<◌, ◌^◌, ◌*◌, nat_le, nat_lt, suc, ◌∷◌, None, IfOk, OnOk, OnErr, unwrap_or};
 ghost use Rattle.std.specs.Option.{is_some};
 ghost use Rattle.mem_image.specs.Accesses.{bytes};
 ghost use Rattle.mem_image.specs.Bytes.{peek};
@@ -7,7 +7,7 @@ ghost use Rattle.inst_meaning.specs.Accesses.{found, updated, word_read, IsFitti
 ghost use Rattle.inst_meaning.specs.declared.actions.Cause.TheVariants.{Stack, Depth, Unreachable};
 ghost use Rattle.ir_layout.specs.Memory.{frame_limit};
 ghost use Rattle.process.specs.State.{frame_count, stack_start};
-ghost use Rattle.process.specs.Outcome.{reserved, unless, unless_valid, failure, returned, thread_after, store_of};
+ghost use Rattle.process.specs.Outcome.{reserved, unless, unless_valid, failure, returned, thread_after, store_of, touch_of};
 ghost use Rattle.process.specs.declared.state.Thread.TheVariants.{Running};
 ghost use Rattle.mem_image.specs.Touches.{stored_with};
 ghost use Rattle.process.specs.code.Moves.{where_done, cause_in, thread_in};
@@ -203,6 +203,49 @@ impl<F: Drop> CallStack<F> {
             Ok(Local::Done)
         } else {
             Ok(Local::Returned(word))
+        }
+    }
+
+    /// Does an action that a thread does alone and without memory. For want of memory nothing changes.
+    pub fn act_apart<P: Code<Frame = F>>(
+        &mut self,
+        alloc: Global,
+        program: &P,
+        room: &mut P::Room,
+        t: Tid,
+        target: P::Target,
+        action: &Action,
+    ) -> Result<Local, AllocError>
+        requires passes { P.can_pass self.old.frame }
+        requires apart { touch_of action.now ≡ None }
+        ensures cause { IfOk result (λ local. cause_in local ≡ failure (P.frames program.now) [] t.0 self.old action.now) }
+        ensures thread { IfOk result (λ local. thread_in local self.new
+            ≡ where_done (cause_in local) (thread_after (P.frames program.now) target self.old action.now 0) (Running self.old)) }
+        ensures err { OnErr result (self.new ≡ self.old) }
+    {
+        match action {
+            Action::Assign(word) => {
+                self.finish(program, target, *word)?;
+                Ok(Local::Done)
+            }
+            Action::Reserve(size) => self.reserve(program, t, target, *size),
+            Action::Pass => {
+                program.advance(&mut self.frame);
+                Ok(Local::Done)
+            }
+            Action::Jump(label) => self.jump(program, *label, room),
+            Action::Call { function, words } => {
+                self.call(alloc, program, target, *function, words.items())
+            }
+            Action::Return(word) => self.give_back(program, *word),
+            Action::Fault(cause) => Ok(Local::Failed(*cause)),
+            Action::Read { .. }
+            | Action::Write { .. }
+            | Action::Update { .. }
+            | Action::Ask(_)
+            | Action::Create { .. }
+            | Action::Join(_)
+            | Action::Exit(_) => Ok(Local::Done),
         }
     }
 

@@ -3,7 +3,7 @@ use crate::Callers;
 use inst_meaning::Cause;
 
 /// How far a thread's stack region is taken, the frame that runs, and those that wait for it, the last first.
-#[derive(Drop)]
+#[derive(Clone, Drop)]
 pub struct CallStack<F> {
     pub mark: u64,
     pub frame: F,

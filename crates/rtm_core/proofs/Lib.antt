@@ -3,3 +3,4 @@ pub mod LineLists
 pub mod Machines
 pub mod Others
 pub mod WrittenBytes
+pub mod Threads

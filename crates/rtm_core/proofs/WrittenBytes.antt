@@ -1,11 +1,12 @@
 -- Buffers: a word is put there byte by byte, a word is seen through one, and one is put into memory byte by byte.
-use Rattle.std.proofs.Common.{◌≡◌, ◌≢◌, ◌∙◌, ℕ, zero, suc, ◌+◌, ◌*◌, ◌%◌, ◌<◌, ◌≤◌, Bool, true, false, List, [], ◌∷◌, ◌++◌, length, map, take, drop, set, Option, Some, None, slice_index, get_or, nat_eq, nat_le, refl, sym, ap, arith}
+use Rattle.std.proofs.Common.{◌≡◌, ◌≢◌, ◌∙◌, ℕ, zero, suc, ◌+◌, ◌*◌, ◌%◌, ◌^◌, ◌<◌, ◌≤◌, Bool, true, false, List, [], ◌∷◌, ◌++◌, length, map, take, drop, set, Option, Some, None, slice_index, get_or, nat_eq, nat_le, refl, sym, ap, subst, arith}
 use Rattle.std.specs.Prelude.{unwrap_or}
 use Rattle.std.specs.Int.{byte_at, bytes_low_first}
+use Rattle.std.proofs.Math.Nat.{pow-suc}
 use Rattle.std.proofs.lemmas.Bool.{eqb-true, eqb-false}
 use Rattle.std.proofs.lemmas.Bool.Decides.{nat_tests}
 use Rattle.std.proofs.lemmas.List.{take_all}
-use Rattle.byteorder.specs.Endian.{little_bytes, little_number}
+use Rattle.byteorder.specs.Endian.{little_bytes, little_from, little_number}
 use Rattle.byteorder.specs.Numbers.{length-bytes_low_first}
 use Rattle.mem_image.specs.declared.sizes.Size.{Size}
 use Rattle.mem_image.specs.declared.sizes.Size.TheVariants.{S1, S2, S4, S8}
@@ -13,6 +14,7 @@ use Rattle.mem_image.specs.Accesses.{bytes}
 use Rattle.mem_image.specs.Bytes.{Memory}
 use Rattle.mem_image.specs.Lines.{Line, line_size, line_of, marked_with, written_in}
 use Rattle.mem_image.specs.Views.{Written, nothing_written, one_byte, only_if, overlaid, view}
+use Rattle.mem_image.proofs.Laws.{power_of_bytes}
 use Rattle.mem_image.proofs.OneByte.{view-same, view-twice}
 use Rattle.mem_image.proofs.ViewBytes.{overlaid-at}
 use Rattle.mem_image.proofs.Views.{view-nothing}
@@ -182,3 +184,16 @@ some-bytes S1 = omega arith
 some-bytes S2 = omega arith
 some-bytes S4 = omega arith
 some-bytes S8 = omega arith
+
+-- ---- a word of bytes is below its size
+
+little-below : (i n : ℕ) (xs : List ℕ) → ((j : ℕ) → i ≤ j → j < i + n → slice_index xs j < 256) → little_from i n xs < 256 ^ n
+little-below i zero xs small = omega arith
+little-below i (suc n) xs small =
+    let first : slice_index xs i < 256 = small i (omega arith) (omega arith) in
+    let rest : little_from (suc i) n xs < 256 ^ n = little-below (suc i) n xs (λ j e f. small j (omega (arith, e)) (omega (arith, f))) in
+    let power : 256 ^ suc n ≡ 256 ^ n * 256 = pow-suc 256 n in
+    omega (arith, first, rest, power)
+
+pub word-below : (n : ℕ) (xs : List ℕ) → ((j : ℕ) → j < n → slice_index xs j < 256) → little_number n xs < 2 ^ (8 * n)
+word-below n xs small = subst (λ (end : ℕ). little_number n xs < end) (power_of_bytes n) (little-below 0 n xs (λ j e f. small j (omega (arith, f))))

@@ -2,9 +2,10 @@
 -- with Intel Transactional Synchronization Extensions': 'RTM Abort Status Definition').
 --
 -- Choice: a conflict aborts with status 6, that is, a retry may succeed (bit 1) and another thread's access conflicted (bit 2).
-use Rattle.std.specs.Prelude.{ℕ, true, false, List, map, Option, Some, None, refl}
+use Rattle.std.specs.Prelude.{ℕ, ◌<◌, true, false, List, [], ◌∷◌, map, Option, Some, None, refl}
 use Rattle.std.specs.Coded.{Coded, code_by, coded×, coded_list, coded_option}
 use Rattle.std.specs.Option.{option_map}
+use Rattle.ir_layout.specs.Memory.{thread_limit}
 use Rattle.mem_image.specs.Accesses.{bytes}
 use Rattle.mem_image.specs.Bytes.{Memory}
 use Rattle.mem_image.specs.Touches.{Touch, Store}
@@ -67,3 +68,8 @@ aborted_with status thread = record { tid = record { 0 = thread.0 }; status = st
 
 abbrev pub conflict_aborts : {C : Type 0} → List (ℕ × C) → List (Aborted C)
 conflict_aborts threads = map (aborted_with conflict_status) threads
+
+-- each is a thread
+abbrev pub AreThreads : {C : Type 0} → List (Aborted C) → Type 0
+AreThreads [] = Unit {0}
+AreThreads (a ∷ rest) = (a.tid.0 < thread_limit) × AreThreads rest

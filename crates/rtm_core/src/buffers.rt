@@ -1,5 +1,5 @@
 //! Buffers of written bytes, a line each.
-ghost use Rattle.std.specs.Prelude.{◌≡◌, ◌+◌, ◌*◌, ◌<◌, ◌≤◌, None, [], ◌∷◌, length, replicate};
+ghost use Rattle.std.specs.Prelude.{◌≡◌, ◌+◌, ◌*◌, ◌^◌, ◌<◌, ◌≤◌, None, [], ◌∷◌, length, replicate};
 ghost use Rattle.byteorder.specs.Endian.{little_number};
 ghost use Rattle.mem_image.specs.Accesses.{bytes};
 ghost use Rattle.mem_image.specs.Lines.{line_size, marked_with, written_in};
@@ -62,7 +62,8 @@ impl Buffer {
         requires within { at + length old.now ≤ line_size }
         requires few { length old.now ≤ 8 }
         requires some { 1 ≤ length old.now }
-        ensures { result ≡ little_number (length old.now) (overlaid (held_in self.now) at old.now) }
+        ensures word { result ≡ little_number (length old.now) (overlaid (held_in self.now) at old.now) }
+        ensures below { result < 2 ^ (8 * length old.now) }
     {
         let mut word = [0u8; 8];
         for k in 0..old.len() {

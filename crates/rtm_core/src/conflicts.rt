@@ -43,6 +43,7 @@ pub(crate) fn strike_others<C: Drop>(
     requires threads { vec_len slots.old ≡ thread_limit }
     ensures slots { slots.new.items ≡ spared_from t.0 (touch_of access.now) 0 slots.old.items }
     ensures out { out.new.items ≡ out.old.items ++ conflict_aborts (struck_from t.0 (touch_of access.now) 0 slots.old.items) }
+    ensures capacity { vec_capacity out.old ≤ vec_capacity out.new }
 {
     for u in 0..THREAD_LIMIT {
         strike(&mut slots[u], u as u32, t, access, out);

@@ -1,9 +1,9 @@
 //! Memory with the transactions of 64 threads.
-ghost use Rattle.std.specs.Prelude.{◌≡◌, ◌+◌, ◌*◌, ◌^◌, ◌<◌, ◌≤◌, ◌++◌, true, false, None, Some, IfOk, IfSome, OnErr, is_some, replicate};
+ghost use Rattle.std.specs.Prelude.{◌≡◌, ◌+◌, ◌*◌, ◌^◌, ◌<◌, ◌≤◌, ◌++◌, true, false, None, Some, IfOk, IfSome, IsOk, OnErr, is_some, replicate, vec_len, vec_capacity};
 ghost use Rattle.ir_layout.specs.Memory.{is_valid, thread_limit};
 ghost use Rattle.mem_image.specs.Accesses.{bytes};
 ghost use Rattle.mem_image.specs.Bytes.{read_of};
-ghost use Rattle.rtm_core.specs.Calls.{touch_of, store_of, store_at, reading, writing, updating, got_of, conflict_aborts};
+ghost use Rattle.rtm_core.specs.Calls.{touch_of, store_of, store_at, reading, writing, updating, got_of, conflict_aborts, AreThreads};
 ghost use Rattle.rtm_core.specs.Transactions.{thread, seen_by, begun, committed, aborted, kept_of, has_room_in, done_in, entry_of, after, aborts_at, word_seen};
 
 use crate::conflicts::strike_others;
@@ -70,7 +70,8 @@ impl<C: Drop> Rtm<C> {
     /// The word of an access as a thread sees it, or `None` exactly where the access isn't valid. No line is added.
     pub fn peek(&self, t: Tid, addr: u64, size: Size) -> Option<u64>
         requires { t.0 < thread_limit }
-        ensures { result ≡ read_of (seen_by self.now t.0) addr (bytes size) }
+        ensures word { result ≡ read_of (seen_by self.now t.0) addr (bytes size) }
+        ensures below { IfSome result (λ word. word < 2 ^ (8 * bytes size)) }
     {
         self.slots[t.0 as usize].read(&self.image, addr, size)
     }
@@ -120,6 +121,9 @@ impl<C: Drop> Rtm<C> {
         ensures parts { IfOk result (λ _. self.new ≡ after (entry_of self.old t.0 (touch_of access.now)) self.old t.0 (touch_of access.now) (store_of access.now store)) }
         ensures out { IfOk result (λ _. out.new.items ≡ out.old.items ++ conflict_aborts (aborts_at (entry_of self.old t.0 (touch_of access.now)) self.old t.0 (touch_of access.now))) }
         ensures unchanged { OnErr result ((self.new ≡ self.old) × (out.new.items ≡ out.old.items)) }
+        ensures succeeds { vec_len out.old + thread_limit ≤ vec_capacity out.old → IsOk result }
+        ensures capacity { vec_capacity out.old ≤ vec_capacity out.new }
+        ensures threads { AreThreads out.old.items → AreThreads out.new.items }
     {
         if !self.slots[t.0 as usize].has_room(access) {
             return Ok(Got::Overflow);
@@ -149,7 +153,8 @@ impl<C: Drop> Rtm<C> {
 
     /// Reads a word as a thread sees it. Inside a transaction its line is added to those that were read. Every other transaction that
     /// the access conflicts with is aborted first, and goes to `out` in order of threads. `Trap` comes exactly where the access isn't
-    /// valid, `Overflow` exactly where the thread's transaction has no room for its line; then nothing changes.
+    /// valid, `Overflow` exactly where the thread's transaction has no room for its line; then nothing changes. Where `out` has room for 64
+    /// more it takes no memory.
     pub fn read(
         &mut self,
         t: Tid,
@@ -162,6 +167,9 @@ impl<C: Drop> Rtm<C> {
         ensures parts { IfOk result (λ _. self.new ≡ after (entry_of self.old t.0 (reading addr (bytes size))) self.old t.0 (reading addr (bytes size)) None) }
         ensures out { IfOk result (λ _. out.new.items ≡ out.old.items ++ conflict_aborts (aborts_at (entry_of self.old t.0 (reading addr (bytes size))) self.old t.0 (reading addr (bytes size)))) }
         ensures unchanged { OnErr result ((self.new ≡ self.old) × (out.new.items ≡ out.old.items)) }
+        ensures succeeds { vec_len out.old + thread_limit ≤ vec_capacity out.old → IsOk result }
+        ensures capacity { vec_capacity out.old ≤ vec_capacity out.new }
+        ensures threads { AreThreads out.old.items → AreThreads out.new.items }
     {
         let Some(word) = self.peek(t, addr, size) else {
             return Ok(Got::Trap);
@@ -190,6 +198,9 @@ impl<C: Drop> Rtm<C> {
         ensures parts { IfOk result (λ _. self.new ≡ after (entry_of self.old t.0 (writing addr (bytes size))) self.old t.0 (writing addr (bytes size)) (Some (record { address = addr; size = bytes size; word = v }))) }
         ensures out { IfOk result (λ _. out.new.items ≡ out.old.items ++ conflict_aborts (aborts_at (entry_of self.old t.0 (writing addr (bytes size))) self.old t.0 (writing addr (bytes size)))) }
         ensures unchanged { OnErr result ((self.new ≡ self.old) × (out.new.items ≡ out.old.items)) }
+        ensures succeeds { vec_len out.old + thread_limit ≤ vec_capacity out.old → IsOk result }
+        ensures capacity { vec_capacity out.old ≤ vec_capacity out.new }
+        ensures threads { AreThreads out.old.items → AreThreads out.new.items }
     {
         if !self.image.valid(addr, size) {
             return Ok(Got::Trap);
@@ -219,6 +230,9 @@ impl<C: Drop> Rtm<C> {
         ensures parts { IfOk result (λ _. self.new ≡ after (entry_of self.old t.0 (updating addr (bytes size))) self.old t.0 (updating addr (bytes size)) (store_at addr (bytes size) v)) }
         ensures out { IfOk result (λ _. out.new.items ≡ out.old.items ++ conflict_aborts (aborts_at (entry_of self.old t.0 (updating addr (bytes size))) self.old t.0 (updating addr (bytes size)))) }
         ensures unchanged { OnErr result ((self.new ≡ self.old) × (out.new.items ≡ out.old.items)) }
+        ensures succeeds { vec_len out.old + thread_limit ≤ vec_capacity out.old → IsOk result }
+        ensures capacity { vec_capacity out.old ≤ vec_capacity out.new }
+        ensures threads { AreThreads out.old.items → AreThreads out.new.items }
     {
         let Some(word) = self.peek(t, addr, size) else {
             return Ok(Got::Trap);

@@ -1,5 +1,5 @@
 //! The place of a thread's transaction.
-ghost use Rattle.std.specs.Prelude.{◌≡◌, ◌+◌, ◌%◌, ◌<◌, ◌≤◌, ◌&&◌, ◌||◌, not, true, None, Some, IfOk, IfSome, is_some};
+ghost use Rattle.std.specs.Prelude.{◌≡◌, ◌+◌, ◌%◌, ◌<◌, ◌≤◌, ◌&&◌, ◌||◌, ◌*◌, ◌^◌, not, true, None, Some, IfOk, IfSome, is_some};
 ghost use Rattle.ir_layout.specs.Memory.{is_valid};
 ghost use Rattle.line_sets.specs.Sets.{takes, place_in};
 ghost use Rattle.mem_image.specs.Accesses.{bytes};
@@ -126,7 +126,8 @@ impl<C: Drop> Slot<C> {
 
     /// The word of an access, as the transaction sees it.
     pub(crate) fn read(&self, image: &Image, addr: u64, size: Size) -> Option<u64>
-        ensures { result ≡ read_of (seen_in self.now image.now) addr (bytes size) }
+        ensures word { result ≡ read_of (seen_in self.now image.now) addr (bytes size) }
+        ensures below { IfSome result (λ word. word < 2 ^ (8 * bytes size)) }
     {
         if self.keep.is_none() || !image.valid(addr, size) {
             return image.read(addr, size);

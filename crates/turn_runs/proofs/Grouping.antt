@@ -5,7 +5,7 @@ use Rattle.std.proofs.lemmas.Bool.{eqb-true, eqb-false, true≢false}
 use Rattle.ir_core.specs.declared.types.Tid.{Tid}
 use Rattle.turn_runs.specs.Runs.{grouped, grouped_with, turns_of, added}
 
-abbrev tid : ℕ → Tid
+abbrev pub tid : ℕ → Tid
 tid t = record { 0 = t }
 
 -- two numbers are tested for equality either way round

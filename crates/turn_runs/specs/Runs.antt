@@ -1,5 +1,5 @@
 -- Turns as maximal runs.
-use Rattle.std.specs.Prelude.{ℕ, zero, suc, ◌==◌, List, [], ◌∷◌, ◌++◌, if◌then◌else◌, replicate}
+use Rattle.std.specs.Prelude.{ℕ, zero, suc, ◌+◌, ◌==◌, List, [], ◌∷◌, ◌++◌, if◌then◌else◌, replicate}
 use Rattle.ir_core.specs.declared.types.Tid.{Tid}
 
 -- a turn before turns that are grouped
@@ -33,3 +33,10 @@ shortened (run ∷ next ∷ runs) = run ∷ shortened (next ∷ runs)
 abbrev pub turns_of : List (Tid × ℕ) → List ℕ
 turns_of [] = []
 turns_of (run ∷ runs) = replicate run.1 run.0.0 ++ turns_of runs
+
+-- runs once so many turns of a thread are added at their end
+abbrev pub added_run : ℕ → ℕ → List (Tid × ℕ) → List (Tid × ℕ)
+added_run t zero runs = runs
+added_run t (suc n) [] = (record { 0 = t }, suc n) ∷ []
+added_run t (suc n) (run ∷ []) = if t == run.0.0 then (run.0, run.1 + suc n) ∷ [] else run ∷ (record { 0 = t }, suc n) ∷ []
+added_run t (suc n) (run ∷ next ∷ runs) = run ∷ added_run t (suc n) (next ∷ runs)

@@ -1,6 +1,6 @@
 //! Turns in order, kept as maximal runs.
-ghost use Rattle.std.specs.Prelude.{◌≡◌, ◌+◌, ◌-◌, ◌<◌, ◌^◌, ◌∷◌, [], ◌++◌, length, take, OnOk, OnErr};
-ghost use Rattle.turn_runs.specs.Runs.{grouped, turns_of, added, shortened};
+ghost use Rattle.std.specs.Prelude.{◌≡◌, ◌+◌, ◌-◌, ◌<◌, ◌^◌, ◌∷◌, [], ◌++◌, ◌≤◌, length, replicate, take, OnOk, OnErr};
+ghost use Rattle.turn_runs.specs.Runs.{grouped, turns_of, added, added_run, shortened};
 
 use ir_core::{Seq, Tid, Turns};
 use std::alloc::{AllocError, Global};
@@ -39,6 +39,25 @@ fn add_turn(runs: &mut Vec<(Tid, u64)>, tid: Tid) -> Result<(), AllocError>
     Ok(())
 }
 
+/// Adds so many turns at the end of runs. A run of 2^64 turns is past all memory.
+fn add_turns(runs: &mut Vec<(Tid, u64)>, tid: Tid, count: u64) -> Result<(), AllocError>
+    requires { 1 ≤ count }
+    ensures ok { OnOk result (runs.new.items ≡ added_run tid.0 count runs.old.items) }
+    ensures err { OnErr result (runs.new.items ≡ runs.old.items) }
+{
+    if let Some(last) = runs.last_mut() {
+        if tid == last.0 {
+            let Some(sum) = last.1.checked_add(count) else {
+                return Err(AllocError);
+            };
+            last.1 = sum;
+            return Ok(());
+        }
+    }
+    runs.push((tid, count))?;
+    Ok(())
+}
+
 /// Takes the last turn of runs back, where there is one.
 fn remove_turn(runs: &mut Vec<(Tid, u64)>)
     ensures { runs.new.items ≡ shortened runs.old.items }
@@ -72,6 +91,19 @@ impl TurnLog {
         ensures err { OnErr result (self.new ≡ self.old) }
     {
         add_turn(&mut self.runs, tid)?;
+        Ok(())
+    }
+
+    /// Adds so many turns of a thread, in time that doesn't depend on how many. For want of memory nothing changes; a run of 2^64 turns is
+    /// past all memory.
+    pub fn push_run(&mut self, tid: Tid, count: u64) -> Result<(), AllocError>
+        ensures ok { OnOk result (self.new ≡ self.old ++ replicate count tid.0) }
+        ensures err { OnErr result (self.new ≡ self.old) }
+    {
+        if count == 0 {
+            return Ok(());
+        }
+        add_turns(&mut self.runs, tid, count)?;
         Ok(())
     }
 

@@ -1,10 +1,11 @@
-use Rattle.std.proofs.Common.{◌≡◌, ◌∙◌, ◌<◌, ◌++◌, ap, sym, arith, ℕ, List, length, true, false}
+use Rattle.std.proofs.Common.{◌≡◌, ◌∙◌, ◌<◌, ◌++◌, ap, sym, subst, arith, ℕ, List, length, true, false}
 use Rattle.rtm_core.specs.declared.Aborted.{Aborted}
-use Rattle.rtm_core.specs.Calls.{touch_of, store_of, got_of, conflict_aborts}
+use Rattle.rtm_core.specs.Calls.{touch_of, store_of, got_of, conflict_aborts, AreThreads}
 use Rattle.rtm_core.specs.Transactions.{Entry, entry_of, struck_from}
 use Rattle.rtm_core.specs.Transactions.Entry.{Full, Entered}
 use Rattle.rtm_core.proofs.Machines.{all-aborted, all-done, entry-is, none-aborted, own-room, room-is}
 use Rattle.rtm_core.proofs.Others.{length-spared}
+use Rattle.rtm_core.proofs.Threads.{more-threads, struck-threads}
 use Rattle.rtm_core.proofs.machine.Rtm.access.Goals as goal
 
 pub returns-then-not-has_room-clause-out : goal.returns-then-not-has_room-clause-out
@@ -59,3 +60,11 @@ returns-clause-out g c =
     let entry : entry_of c.args.self.now t touch ≡ Entered = entry-is c.args.self.now t touch true c.requires.valid room in
     c.strike_others.ensures.out ∙ ap (λ (out : List (Aborted _)). out ++ conflict_aborts (struck_from t touch 0 i.slots.items)) c.reserve.ensures.items
     ∙ all-aborted i.image i.slots.items t touch c.args.self.now c.args.out.now.items c.self.view_is entry
+
+pub returns-clause-threads : goal.returns-clause-threads
+returns-clause-threads g c = λ all.
+    let i = c.self.inside in
+    let t : ℕ = c.args.t.0 in
+    let touch = touch_of c.args.access.now in
+    subst (λ list. AreThreads list) (sym (c.strike_others.ensures.out ∙ ap (λ (out : List (Aborted _)). out ++ conflict_aborts (struck_from t touch 0 i.slots.items)) c.reserve.ensures.items))
+    (more-threads c.args.out.now.items (conflict_aborts (struck_from t touch 0 i.slots.items)) all (struck-threads t touch 0 i.slots.items (omega (arith, c.self.invariant))))

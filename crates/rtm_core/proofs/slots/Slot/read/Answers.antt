@@ -14,20 +14,20 @@ word-requires-clause-some g c =
     let long = old-long c.args.image.now c.args.addr (bytes c.args.size) c.in_ok-old-in-Some.old.now c.valid.ensures.whole valid c.in_ok-old-in-Some.ensures in
     omega (arith, long, some-bytes c.args.size)
 
-pub returns-in-None : goal.returns-in-None
-returns-in-None g c =
+pub returns-in-None-clause-word : goal.returns-in-None-clause-word
+returns-in-None-clause-word g c =
     let i = c.self.inside in
     c.read-in-None.ensures.word
     ∙ read-unwritten c.args.image.now i.keep i.reads i.writes i.buffers.items c.args.addr (bytes c.args.size) c.valid.ensures.whole (sym c.valid.ensures.valid ∙ c.if-not-valid.false) c.self.invariant (place-none i.writes (c.args.addr / 64) (sym c.in-None.ensures))
     ∙ seen-same c.args.image.now c.args.addr (bytes c.args.size) (transaction_of i.keep i.reads i.writes i.buffers.items) c.args.self.now c.self.view_is
 
-pub returns-in_ok-old-in-Some : goal.returns-in_ok-old-in-Some
-returns-in_ok-old-in-Some g c =
+pub returns-in_ok-old-in-Some-clause-word : goal.returns-in_ok-old-in-Some-clause-word
+returns-in_ok-old-in-Some-clause-word g c =
     let i = c.self.inside in
     let few : length i.writes ≤ length i.buffers.items = few-lines i.writes i.buffers.items c.self.invariant in
     let first = is-first i.writes (c.args.addr / 64) c.in-Some.place (sym c.in-Some.ensures) in
     let within : c.in-Some.place < length i.buffers.items = omega (arith, few, first.within) in
     let buffer : c.index.result.now ≡ get_or i.buffers.items c.in-Some.place [] = c.index.ensures ∙ get_or_default i.buffers.items c.in-Some.place c.index.result.now [] within in
-    ap Some c.word.ensures
+    ap Some c.word.ensures.word
     ∙ read-buffered c.args.image.now i.keep i.reads i.writes i.buffers.items c.index.result.now c.args.addr (bytes c.args.size) c.in-Some.place c.in_ok-old-in-Some.old.now c.valid.ensures.whole (sym c.valid.ensures.valid ∙ c.if-not-valid.false) c.self.invariant c.if-is_none.ensures (sym c.in-Some.ensures) c.in_ok-old-in-Some.ensures buffer
     ∙ seen-same c.args.image.now c.args.addr (bytes c.args.size) (transaction_of i.keep i.reads i.writes i.buffers.items) c.args.self.now c.self.view_is
