@@ -4,7 +4,7 @@
 #![tactic(auto)]
 
 mod conflicts;
-mod core;
+mod parts;
 mod marks;
 mod records;
 mod strikes;

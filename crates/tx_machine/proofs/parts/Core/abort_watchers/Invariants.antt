@@ -1,6 +1,6 @@
 use Rattle.std.proofs.Common.{◌≡◌, length}
 use Rattle.tx_machine.specs.Core.{watchers_aborted}
-use Rattle.tx_machine.proofs.core.Core.abort_watchers.Given as goal
+use Rattle.tx_machine.proofs.parts.Core.abort_watchers.Given as goal
 
 abbrev pub invariant-loop-u : goal.invariant-loop-u
 invariant-loop-u l = record {

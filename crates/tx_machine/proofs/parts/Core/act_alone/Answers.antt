@@ -3,7 +3,7 @@ use Rattle.inst_meaning.specs.declared.actions.Cause.{Cause}
 use Rattle.tx_machine.specs.Core.{CoreParts, core_told, core_untold, core_trapped, core_aborted, core_accessed, failure_at, room_for, alone_as, finished_as, core_finished, core_done}
 use Rattle.hard_meaning.specs.Aborts.{Overflow}
 use Rattle.tx_machine.proofs.Told.{untold-told}
-use Rattle.tx_machine.proofs.core.Core.act_alone.Goals as goal
+use Rattle.tx_machine.proofs.parts.Core.act_alone.Goals as goal
 
 pub returns-in-Err-clause-err : goal.returns-in-Err-clause-err
 returns-in-Err-clause-err c = c.untell.ensures ∙ ap (core_untold c.args.retires c.args.t.0) (c.in-Err.ensures.err ∙ c.in_ok-tell.ensures.ok)
