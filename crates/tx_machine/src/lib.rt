@@ -1,11 +1,12 @@
-//! The machine of hardened programs with transactions, lock elision and upsets: threads that take turns, one hardened instruction a turn.
+//! Parts of the machine of hardened programs with transactions, lock elision and upsets: what each instruction does to all that runs, part by
+//! part, strikes, and the log of upsets. Nothing joins them into turns yet.
 //!
 //! Definitions: those of `hard_meaning`. How the code keeps a thread stands in `specs/Own.antt`.
 #![tactic(auto)]
 
 mod conflicts;
-mod parts;
 mod marks;
+mod parts;
 mod records;
 mod strikes;
 mod workers;
