@@ -6,3 +6,4 @@ pub mod Undone
 pub mod StruckFrames
 pub mod Targets
 pub mod Standing
+pub mod Meant
