@@ -7,3 +7,4 @@ pub mod StruckFrames
 pub mod Targets
 pub mod Standing
 pub mod Meant
+pub mod MeantAborts
