@@ -8,3 +8,4 @@ pub mod Targets
 pub mod Standing
 pub mod Meant
 pub mod MeantAborts
+pub mod MeantPasses
