@@ -9,3 +9,4 @@ pub mod Standing
 pub mod Meant
 pub mod MeantAborts
 pub mod MeantPasses
+pub mod MeantEnds
