@@ -10,3 +10,4 @@ pub mod Meant
 pub mod MeantAborts
 pub mod MeantPasses
 pub mod MeantEnds
+pub mod MeantChecks
