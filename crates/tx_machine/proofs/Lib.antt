@@ -11,3 +11,4 @@ pub mod MeantAborts
 pub mod MeantPasses
 pub mod MeantEnds
 pub mod MeantChecks
+pub mod MeantTouches

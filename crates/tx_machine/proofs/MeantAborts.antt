@@ -69,7 +69,7 @@ aborted-inside status Out w tx k e = cc
 aborted-inside status In w tx k e = refl
 aborted-inside status Plain w tx k e = cc
 
-undone-mode : (status : Status) (mode : runtime.Mode) (w : OwnParts) (kept : CallStack Frame) → true ≡ is_in mode
+pub undone-mode : (status : Status) (mode : runtime.Mode) (w : OwnParts) (kept : CallStack Frame) → true ≡ is_in mode
     → false ≡ is_in (once_undone status kept (in_mode mode w)).words.mode
 undone-mode status Out w kept e = cc
 undone-mode status In w kept e = refl

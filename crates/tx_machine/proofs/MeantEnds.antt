@@ -38,7 +38,7 @@ empty-is [] = refl
 empty-is (address ∷ held) = refl
 
 -- a worker becomes one thing and then another
-twice : (s : State) (t : ℕ) (v w : Worker) → with_worker (with_worker s t v) t w ≡ with_worker s t w
+pub twice : (s : State) (t : ℕ) (v w : Worker) → with_worker (with_worker s t v) t w ≡ with_worker s t w
 twice s t v w = ap (λ (ws : List Worker). record s { workers = ws }) (set-set s.workers t v w)
 
 -- ---- one thread
