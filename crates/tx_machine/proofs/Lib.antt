@@ -12,3 +12,4 @@ pub mod MeantPasses
 pub mod MeantEnds
 pub mod MeantChecks
 pub mod MeantTouches
+pub mod MeantAlone
