@@ -13,3 +13,4 @@ pub mod MeantEnds
 pub mod MeantChecks
 pub mod MeantTouches
 pub mod MeantAlone
+pub mod MeantActions

@@ -26,7 +26,7 @@ use Rattle.tx_machine.proofs.Meant.{open-is}
 use Rattle.tx_machine.proofs.MeantAborts.{in_mode, failed-meant, failed-tied, trapped-meant, trapped-tied}
 use Rattle.tx_machine.proofs.MeantPasses.{passed-meant, passed-tied, thread-meant, thread-tied}
 
-inside-mode : (mode : runtime.Mode) (w : OwnParts) (x : Option (Transaction (CallStack Frame))) (k : WatchParts) → is_some x ≡ is_in mode
+pub inside-mode : (mode : runtime.Mode) (w : OwnParts) (x : Option (Transaction (CallStack Frame))) (k : WatchParts) → is_some x ≡ is_in mode
     → is_some x ≡ is_inside (joined_one (in_mode mode w) x k).mode
 inside-mode Out w x k e = e
 inside-mode Plain w x k e = e
