@@ -192,3 +192,173 @@ module _ (p : CoreParts) (t : ℕ) (w : OwnParts) (x : Option (Transaction (Call
 
   moved-rtm : moved.rtm ≡ p.rtm
   moved-rtm = told-rtm retires (is_some x) t p
+
+  moved-world : moved.world ≡ p.world
+  moved-world = told_world retires (is_some x)
+    where
+      told_world : (b c : Bool) → (told_by b c t p).world ≡ p.world
+      told_world true true = refl
+      told_world true false = refl
+      told_world false c = refl
+
+  moved-own-thread : moved_own.thread ≡ g w.thread
+  moved-own-thread = ap g (told-thread retires (is_some x) w)
+
+-- ---- and memory is touched
+
+abbrev takes : Entry → Bool
+takes Invalid = true
+takes Full = false
+takes Entered = true
+
+took-of : (entry : Entry) (n : ℕ) → took (got_of entry n) ≡ takes entry
+took-of Invalid n = refl
+took-of Full n = refl
+took-of Entered n = refl
+
+finished-none : (action : Action) (t : ℕ) (q : CoreParts) → touch_of action ≡ None → core_finished action t q ≡ q
+finished-none (Read place atomic) t q e = cc
+finished-none (Write place n atomic) t q e = cc
+finished-none (Update place update) t q e = cc
+finished-none (Assign n) t q e = refl
+finished-none (Reserve n) t q e = refl
+finished-none Pass t q e = refl
+finished-none (Jump label) t q e = refl
+finished-none (Call n words) t q e = refl
+finished-none (Ask request) t q e = refl
+finished-none (Create address n argument) t q e = refl
+finished-none (Join other) t q e = refl
+finished-none (Exit code) t q e = refl
+finished-none (Return n) t q e = refl
+finished-none (Fault cause) t q e = refl
+
+abbrev finished_with : Entry → Touch → Option Store → ℕ → CoreParts → CoreParts
+finished_with entry touch store t q = finished_as (takes entry) t (touched_as entry touch store t q)
+
+module _ (t : ℕ) (q : CoreParts) where
+  abbrev IsFinished : Action → Touch → Type 0
+  IsFinished action touch = core_finished action t q ≡ finished_with (entry_of q.rtm t touch) touch (store_of action (word_read (seen_by q.rtm t) action)) t q
+
+  finished-some : (action : Action) (touch : Touch) → touch_of action ≡ Some touch → IsFinished action touch
+  finished-some (Read place atomic) touch e =
+      let same : touch_at place true false ≡ touch = cc in
+      subst (IsFinished (Read place atomic)) same
+      (ap (λ (b : Bool). finished_as b t (core_accessed (Read place atomic) t q)) (took-of (entry_of q.rtm t (touch_at place true false)) (word_read (seen_by q.rtm t) (Read place atomic))))
+  finished-some (Write place n atomic) touch e =
+      let same : touch_at place false true ≡ touch = cc in
+      subst (IsFinished (Write place n atomic)) same
+      (ap (λ (b : Bool). finished_as b t (core_accessed (Write place n atomic) t q)) (took-of (entry_of q.rtm t (touch_at place false true)) n))
+  finished-some (Update place update) touch e =
+      let same : touch_at place true true ≡ touch = cc in
+      subst (IsFinished (Update place update)) same
+      (ap (λ (b : Bool). finished_as b t (core_accessed (Update place update) t q)) (took-of (entry_of q.rtm t (touch_at place true true)) (word_read (seen_by q.rtm t) (Update place update))))
+  finished-some (Assign n) touch e = cc
+  finished-some (Reserve n) touch e = cc
+  finished-some Pass touch e = cc
+  finished-some (Jump label) touch e = cc
+  finished-some (Call n words) touch e = cc
+  finished-some (Ask request) touch e = cc
+  finished-some (Create address n argument) touch e = cc
+  finished-some (Join other) touch e = cc
+  finished-some (Exit code) touch e = cc
+  finished-some (Return n) touch e = cc
+  finished-some (Fault cause) touch e = cc
+
+places-same : (x : Option (Transaction (CallStack Frame))) (mem : Memory) → (rtm.seen_in x mem).places ≡ mem.places
+places-same None mem = refl
+places-same (Some tx) mem = refl
+
+no-touch-room : (m : Mode) → has_room_in m None ≡ true
+no-touch-room (Free plain) = refl
+no-touch-room (Inside tx) = refl
+
+acted-none : (h : HardParts) (s : State) (t : ℕ) (w : Worker) (stack : CallStack Frame) (target : Option (Side × Loc)) (retires : Bool) (action : Action) (m : Mode)
+    → acted_by h s t w stack target retires action m None ≡ settled h s t w stack.frame retires None (outcome_of (frames h) (seen s w.mode) t target stack action)
+acted-none h s t w stack target retires action (Free plain) = refl
+acted-none h s t w stack target retires action (Inside tx) = refl
+
+module _ (p : CoreParts) (t : ℕ) (w : OwnParts) (x : Option (Transaction (CallStack Frame))) (k : WatchParts) (at : StandsAt p t w x k) (ups : List Upset)
+    (retires : Bool) (g : Thread Frame → Thread Frame) (thread : Thread Frame) (is : g w.thread ≡ thread) where
+  abbrev q : CoreParts
+  q = moved p t w x k at ups retires g
+
+  abbrev v : OwnParts
+  v = moved_own p t w x k at ups retires g
+
+  abbrev s : State
+  s = state_of p ups
+
+  abbrev one : Worker
+  one = joined_one w x k
+
+  abbrev effect_with : Option Touch → Option Store → Effect Frame
+  effect_with touch store = record { thread = thread; world = p.world; born = None; touch = touch; store = store }
+
+  q-meant : state_of q ups ≡ moved_state s t one retires thread
+  q-meant = moved-meant p t w x k at ups retires g ∙ ap (λ (th : Thread Frame). moved_state s t one retires th) is
+
+  v-is : joined_one v x k ≡ moved_on s t one retires thread
+  v-is = moved-worker p t w x k at ups retires g ∙ ap (λ (th : Thread Frame). moved_on s t one retires th) is
+
+  alone-tried : state_of q ups ≡ tried s t one retires None (effect_with None None)
+  alone-tried = q-meant ∙ alone-after s t one retires thread
+      ∙ ap (λ (b : Bool). where_room b s t one (did s t one retires None (effect_with None None))) (sym (no-touch-room one.mode))
+
+  module _ (touch : Touch) (store : Option Store) where
+    done-q : state_of (touched_as Entered touch store t q) ups ≡ did s t one retires None (effect_with (Some touch) store)
+    done-q =
+        let effect_of : Thread Frame → Effect Frame = λ th. record { thread = th; world = p.world; born = None; touch = Some touch; store = store } in
+        touched-meant q t v x k (moved-stands p t w x k at ups retires g) ups touch store
+        ∙ ap (λ wo. did (state_of q ups) t (joined_one v x k) false None (record (effect_of v.thread) { world = wo })) (moved-world p t w x k at ups retires g)
+        ∙ ap (λ (th : Thread Frame). did (state_of q ups) t (joined_one v x k) false None (effect_of th)) (moved-own-thread p t w x k at ups retires g ∙ is)
+        ∙ ap (λ (z : State). did z t (joined_one v x k) false None (effect_of thread)) q-meant
+        ∙ ap (λ (u : Worker). did (moved_state s t one retires thread) t u false None (effect_of thread)) v-is
+        ∙ did-after s t one retires thread touch store
+
+    full-q : has_room_in one.mode (Some touch) ≡ false → state_of (core_aborted Overflow t q) ups ≡ with_worker s t (aborted Overflow one)
+    full-q e = aborted-meant q t v x k (moved-stands p t w x k at ups retires g) ups Overflow
+        ∙ ap (λ (z : State). with_worker z t (aborted Overflow (joined_one v x k))) q-meant
+        ∙ ap (λ (u : Worker). with_worker (moved_state s t one retires thread) t (aborted Overflow u)) v-is
+        ∙ full-after s t one retires thread touch e
+
+    by-room : (b : Bool) → has_room_in one.mode (Some touch) ≡ b
+        → state_of (finished_with (entry_if true b) touch store t q) ups ≡ where_room b s t one (did s t one retires None (effect_with (Some touch) store))
+    by-room true e = done-q
+    by-room false e = full-q e
+
+    touch-tried : state_of (finished_with (entry_if true (has_room_in one.mode (Some touch))) touch store t q) ups ≡ tried s t one retires None (effect_with (Some touch) store)
+    touch-tried = by-room (has_room_in one.mode (Some touch)) refl
+
+    with-tied : (entry : Entry) → IsTied p → IsTied (finished_with entry touch store t q)
+    with-tied Invalid tied = moved-tied p t w x k at ups retires g tied
+    with-tied Full tied = aborted-tied q t v x k (moved-stands p t w x k at ups retires g) ups Overflow (moved-tied p t w x k at ups retires g tied)
+    with-tied Entered tied = touched-tied q t v x k (moved-stands p t w x k at ups retires g) ups touch store (moved-tied p t w x k at ups retires g tied)
+
+  finish-tied : (action : Action) (o : Option Touch) → touch_of action ≡ o → IsTied p → IsTied (core_finished action t q)
+  finish-tied action None e tied = subst IsTied (sym (finished-none action t q e)) (moved-tied p t w x k at ups retires g tied)
+  finish-tied action (Some touch) e tied = subst IsTied (sym (finished-some t q action touch e))
+      (with-tied touch (store_of action (word_read (seen_by q.rtm t) action)) (entry_of q.rtm t touch) tied)
+
+  -- an action that can be done
+  module _ (action : Action) (stack : CallStack Frame) (target : Option (Side × Loc))
+      (can : failure (frames p.program) (seen_by p.rtm t).places t stack action ≡ None) where
+    entry-is : (touch : Touch) → touch_of action ≡ Some touch → entry_of q.rtm t touch ≡ entry_if true (has_room_in one.mode (Some touch))
+    entry-is touch e =
+        ap (λ (r : RtmParts (CallStack Frame)). entry_of r t touch) (moved-rtm p t w x k at ups retires g)
+        ∙ ap (λ (places : List Span). entry_if (is_valid places touch.address touch.size) (rtm.has_room_in touch (rtm.thread p.rtm t))) (sym (places-same (rtm.thread p.rtm t) p.rtm.memory))
+        ∙ ap (λ (b : Bool). entry_if b (rtm.has_room_in touch (rtm.thread p.rtm t))) (valid-touch p.program t target stack (seen_by p.rtm t).places action touch e can)
+        ∙ ap (λ (o : Option (Transaction (CallStack Frame))). entry_if true (rtm.has_room_in touch o)) (thread-is p t w x k at ups)
+        ∙ ap (λ (b : Bool). entry_if true b) (room-mode w.words.mode w x k touch at.tied)
+
+    finish-meant : (o : Option Touch) → touch_of action ≡ o
+        → state_of (core_finished action t q) ups ≡ tried s t one retires None (effect_with (touch_of action) (store_of action (word_read (seen_by p.rtm t) action)))
+    finish-meant None e =
+        ap (λ (z : CoreParts). state_of z ups) (finished-none action t q e) ∙ alone-tried
+        ∙ ap (λ (st : Option Store). tried s t one retires None (effect_with None st)) (sym (no-store action (word_read (seen_by p.rtm t) action) e))
+        ∙ ap (λ (o : Option Touch). tried s t one retires None (effect_with o (store_of action (word_read (seen_by p.rtm t) action)))) (sym e)
+    finish-meant (Some touch) e =
+        ap (λ (z : CoreParts). state_of z ups) (finished-some t q action touch e)
+        ∙ ap (λ (r : RtmParts (CallStack Frame)). state_of (finished_with (entry_of q.rtm t touch) touch (store_of action (word_read (seen_by r t) action)) t q) ups) (moved-rtm p t w x k at ups retires g)
+        ∙ ap (λ (en : Entry). state_of (finished_with en touch (store_of action (word_read (seen_by p.rtm t) action)) t q) ups) (entry-is touch e)
+        ∙ touch-tried touch (store_of action (word_read (seen_by p.rtm t) action))
+        ∙ ap (λ (o : Option Touch). tried s t one retires None (effect_with o (store_of action (word_read (seen_by p.rtm t) action)))) (sym e)
