@@ -362,3 +362,95 @@ module _ (p : CoreParts) (t : ℕ) (w : OwnParts) (x : Option (Transaction (Call
         ∙ ap (λ (en : Entry). state_of (finished_with en touch (store_of action (word_read (seen_by p.rtm t) action)) t q) ups) (entry-is touch e)
         ∙ touch-tried touch (store_of action (word_read (seen_by p.rtm t) action))
         ∙ ap (λ (o : Option Touch). tried s t one retires None (effect_with o (store_of action (word_read (seen_by p.rtm t) action)))) (sym e)
+
+-- ---- all of it
+
+module _ (p : CoreParts) (t : ℕ) (w : OwnParts) (x : Option (Transaction (CallStack Frame))) (k : WatchParts) (at : StandsAt p t w x k) (ups : List Upset)
+    (retires : Bool) (target : Option (Side × Loc)) (action : Action) where
+  abbrev move : Thread Frame → Thread Frame
+  move th = moved_thread p.program t target (resolved (seen_by p.rtm t) action) th
+
+  abbrev told_parts : CoreParts
+  told_parts = told p t w x k at ups retires move
+
+  told-is : core_told retires t p ≡ told_parts
+  told-is = told-by retires t p ∙ ap (λ (b : Bool). told_by retires b t p) (open-is p t w x k at ups)
+
+  done-is : core_done target action t (core_told retires t p) ≡ moved p t w x k at ups retires move
+  done-is = ap (λ (r : CoreParts). core_done target action t r) told-is
+      ∙ ap (λ (r : RtmParts (CallStack Frame)). core_moved target (resolved (seen_by r t) action) t told_parts) (told-rtm retires (is_some x) t p)
+      ∙ ap (λ (h : HardParts). with_own t (with_thread (moved_thread h t target (resolved (seen_by p.rtm t) action))) told_parts) (told-program retires (is_some x) t p)
+
+  failure-is : failure_at (core_told retires t p) t action ≡ failure_in p.program t w.thread (resolved (seen_by p.rtm t) action)
+  failure-is = ap (λ (r : CoreParts). failure_at r t action) told-is
+      ∙ ap (λ (o : Option OwnParts). option_map_or (λ (v : OwnParts). failure_in told_parts.program t v.thread (resolved (seen_by told_parts.rtm t) action)) o None)
+      (told-stands p t w k ups retires x at).made
+      ∙ ap (λ (th : Thread Frame). failure_in told_parts.program t th (resolved (seen_by told_parts.rtm t) action)) (told-thread retires (is_some x) w)
+      ∙ ap (λ (r : RtmParts (CallStack Frame)). failure_in told_parts.program t w.thread (resolved (seen_by r t) action)) (told-rtm retires (is_some x) t p)
+      ∙ ap (λ (h : HardParts). failure_in h t w.thread (resolved (seen_by p.rtm t) action)) (told-program retires (is_some x) t p)
+
+  tied-by-cause : (o : Option Cause) → IsTied p → IsTied (alone_as o retires target action t p)
+  tied-by-cause None tied = subst (λ (r : CoreParts). IsTied (core_finished action t r)) (sym done-is)
+      (finish-tied p t w x k at ups retires move (move w.thread) refl action (touch_of action) refl tied)
+  tied-by-cause (Some cause) tied = trapped-tied p t w x k at ups tied
+
+  pub alone-tied : IsTied p → IsTied (core_alone retires target action t p)
+  alone-tied tied = tied-by-cause (failure_at (core_told retires t p) t action) tied
+
+  -- where it runs
+  module _ (stack : CallStack Frame) (runs : w.thread ≡ Running stack) where
+    abbrev fails : Option Cause
+    fails = failure (frames p.program) (seen_by p.rtm t).places t stack action
+
+    abbrev then_thread : Thread Frame
+    then_thread = thread_after (frames p.program) target stack action (word_read (seen_by p.rtm t) action)
+
+    fails-is : failure_at (core_told retires t p) t action ≡ fails
+    fails-is = failure-is ∙ ap (λ (th : Thread Frame). failure_in p.program t th (resolved (seen_by p.rtm t) action)) runs
+        ∙ fails-resolved p.program t target stack (seen_by p.rtm t) action
+
+    thread-then : fails ≡ None → move w.thread ≡ then_thread
+    thread-then e = ap move runs
+        ∙ ap (λ (o : Option Cause). where_done o (thread_after (frames p.program) target stack (resolved (seen_by p.rtm t) action) 0) (Running stack))
+        (fails-resolved p.program t target stack (seen_by p.rtm t) action ∙ e)
+        ∙ after-resolved p.program t target stack (seen_by p.rtm t) action e
+
+    -- what it comes to in this memory
+    abbrev outcome_in : Memory → Outcome Frame
+    outcome_in mem = goes_unless (failure (frames p.program) mem.places t stack action) (record {
+      thread = thread_after (frames p.program) target stack action (word_read mem action);
+      world = p.world;
+      born = None;
+      touch = touch_of action;
+      store = store_of action (word_read mem action);
+    })
+
+    abbrev effect : Effect Frame
+    effect = record {
+      thread = then_thread;
+      world = p.world;
+      born = None;
+      touch = touch_of action;
+      store = store_of action (word_read (seen_by p.rtm t) action);
+    }
+
+    by-cause : (o : Option Cause) → fails ≡ o → state_of (alone_as o retires target action t p) ups
+        ≡ settled p.program (state_of p ups) t (joined_one w x k) stack.frame retires None (goes_unless o effect)
+    by-cause None e = ap (λ (r : CoreParts). state_of (core_finished action t r) ups) done-is
+        ∙ finish-meant p t w x k at ups retires move then_thread (thread-then e) action stack target e (touch_of action) refl
+    by-cause (Some cause) e = trapped-meant p t w x k at ups stack runs
+
+    seen-is : seen_by p.rtm t ≡ seen_in (joined_one w x k).mode p.rtm.memory
+    seen-is = ap (λ (o : Option (Transaction (CallStack Frame))). rtm.seen_in o p.rtm.memory) (thread-is p t w x k at ups)
+        ∙ seen-mode w.words.mode w x k p.rtm.memory at.tied
+
+    pub alone-meant : outside_of action ≡ None → state_of (core_alone retires target action t p) ups
+        ≡ acted p.program (state_of p ups) t (joined_one w x k) stack target retires action
+    alone-meant out =
+        let s : State = state_of p ups in
+        let one : Worker = joined_one w x k in
+        ap (λ (o : Option Cause). state_of (alone_as o retires target action t p) ups) fails-is ∙ by-cause fails refl
+        ∙ ap (λ (mem : Memory). settled p.program s t one stack.frame retires None (outcome_in mem)) seen-is
+        ∙ ap (λ (o : Outcome Frame). settled p.program s t one stack.frame retires None o) (sym (outcome-alone p.program s one.mode t target stack action out))
+        ∙ sym (acted-none p.program s t one stack target retires action one.mode)
+        ∙ ap (λ (c : Option MutexCall). acted_by p.program s t one stack target retires action one.mode c) (sym (no-mutex action out))
