@@ -1,22 +1,18 @@
 -- Laws of the state that the code's parts stand for: a thread that stands there, and one that becomes another.
-use Rattle.std.proofs.Common.{ℕ, zero, suc, ◌≡◌, ◌∙◌, ◌<◌, ◌≤◌, Bool, true, false, List, [], ◌∷◌, length, Option, Some, None, slice_get, slice_set, refl, ap, sym, subst, arith}
+use Rattle.std.proofs.Common.{ℕ, zero, suc, ◌≡◌, ◌∙◌, ◌<◌, ◌≤◌, List, [], ◌∷◌, length, Option, Some, slice_get, slice_set, refl, ap, sym, subst, arith}
 use Rattle.std.specs.Option.{is_some, option_map_or, option_flatten}
 use Rattle.ir_layout.specs.Memory.{thread_limit}
 use Rattle.process.specs.declared.state.CallStack.{CallStack}
-use Rattle.process.specs.declared.state.Thread.{Thread}
 use Rattle.hard_frames.specs.declared.state.Frame.{Frame}
 use Rattle.elide.specs.Watches.{WatchParts}
 use Rattle.rtm_core.specs.Transactions.{Transaction, thread}
-use Rattle.tx_runtime.specs.declared.words.Mode as runtime
-use Rattle.tx_runtime.specs.declared.words.Mode.TheVariants.{Out, In, Plain}
-use Rattle.hard_meaning.specs.State.{Mode, Worker, State, Upset}
+use Rattle.hard_meaning.specs.State.{Worker, Upset}
 use Rattle.hard_meaning.specs.Effects.{with_worker}
 use Rattle.tx_machine.specs.Own.{OwnParts}
-use Rattle.tx_machine.specs.Joined.{mode_with, joined_one, joined, is_in}
+use Rattle.tx_machine.specs.Joined.{joined_one, is_in}
 use Rattle.tx_machine.specs.Core.{CoreParts, own_with, with_own, is_open}
 use Rattle.tx_machine.specs.Meant.{state_of, AreTied, IsTied, StandsAt}
-use Rattle.tx_machine.proofs.Joined.{get-joined, set-joined, own-joined, set-same}
-
+use Rattle.tx_machine.proofs.Joined.{get-joined, own-joined, set-same}
 
 -- ---- lists
 
@@ -121,8 +117,8 @@ module _ (p : CoreParts) (t : ℕ) (w : OwnParts) (x : Option (Transaction (Call
   pub own-tied : (f : OwnParts → OwnParts) → is_in (f w).words.mode ≡ is_in w.words.mode → IsTied p → IsTied (with_own t f p)
   own-tied f e tied =
       let tied_with : AreTied (slice_set p.own t (f w)) p.rtm.threads =
-          subst (λ (xs : List (Option (Transaction (CallStack Frame)))). AreTied (slice_set p.own t (f w)) xs) (set-same p.rtm.threads t x at.open_there)
-          (set-tied p.own p.rtm.threads t w (f w) x at.made tied.tied (at.tied ∙ sym e)) in
+      subst (λ (xs : List (Option (Transaction (CallStack Frame)))). AreTied (slice_set p.own t (f w)) xs) (set-same p.rtm.threads t x at.open_there)
+      (set-tied p.own p.rtm.threads t w (f w) x at.made tied.tied (at.tied ∙ sym e)) in
       let long : length (slice_set p.own t (f w)) ≡ length p.own = length-set p.own t (f w) in
       subst (λ (ws : List OwnParts). IsTied (record p { own = ws })) (sym (own-is f))
       (record { threads = tied.threads; watches = tied.watches; own = subst (λ (n : ℕ). n ≤ thread_limit) (sym long) tied.own; tied = tied_with })

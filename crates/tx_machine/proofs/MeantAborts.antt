@@ -1,9 +1,8 @@
 -- Aborts, checks that fail and what is undefined are those of the definitions.
-use Rattle.std.proofs.Common.{ℕ, ◌≡◌, ◌∙◌, ◌≤◌, Bool, true, false, List, [], ◌∷◌, length, Option, Some, None, slice_get, slice_set, refl, ap, sym, subst}
+use Rattle.std.proofs.Common.{ℕ, ◌≡◌, ◌∙◌, ◌≤◌, Bool, true, false, List, [], length, Option, Some, None, slice_set, refl, ap, sym, subst}
 use Rattle.std.specs.Option.{is_some, option_map_or}
 use Rattle.ir_layout.specs.Memory.{thread_limit}
 use Rattle.process.specs.declared.state.CallStack.{CallStack}
-use Rattle.process.specs.declared.state.Thread.{Thread}
 use Rattle.process.specs.declared.state.Thread.TheVariants.{Running}
 use Rattle.hard_frames.specs.declared.state.Frame.{Frame}
 use Rattle.hard_frames.specs.declared.outcome.Stop.{Stop}
@@ -18,9 +17,9 @@ use Rattle.hard_meaning.specs.Aborts.{Status, Mismatch, Other, aborted}
 use Rattle.hard_meaning.specs.Effects.{with_worker}
 use Rattle.hard_meaning.specs.Turns.{halted, failed, trapped}
 use Rattle.tx_machine.specs.Own.{OwnParts, once_undone}
-use Rattle.tx_machine.specs.Joined.{joined_one, joined, is_in}
+use Rattle.tx_machine.specs.Joined.{joined_one, is_in}
 use Rattle.tx_machine.specs.Core.{CoreParts, own_with, is_open, place_of, place_in, aborted_as, core_aborted, halted_if, core_failed, core_trapped}
-use Rattle.tx_machine.specs.Meant.{state_of, AreTied, IsTied, StandsAt}
+use Rattle.tx_machine.specs.Meant.{state_of, IsTied, StandsAt}
 use Rattle.tx_machine.proofs.Joined.{set-joined}
 use Rattle.tx_machine.proofs.Meant.{length-set, set-tied, thread-is, open-is, own-is, stays}
 

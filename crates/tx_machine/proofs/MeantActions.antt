@@ -1,6 +1,5 @@
 -- What a thread does alone, in all parts, is what the definitions make of its action.
 use Rattle.std.proofs.Common.{ℕ, ◌≡◌, ◌∙◌, Bool, true, false, List, [], ◌∷◌, ◌++◌, Option, Some, None, refl, ap, sym, subst}
-use Rattle.std.specs.Prelude.{replicate}
 use Rattle.std.specs.Option.{is_some, option_map_or}
 use Rattle.ir_core.specs.declared.types.Loc.{Loc}
 use Rattle.ir_core.specs.declared.values.Side.{Side}
@@ -17,7 +16,7 @@ use Rattle.process.specs.declared.state.Thread.{Thread}
 use Rattle.process.specs.declared.state.Thread.TheVariants.{Running}
 use Rattle.process.specs.code.Moves.{where_done}
 use Rattle.process.specs.code.Threads.{outside_of}
-use Rattle.process.specs.Outcome.{Effect, Outcome, failure, thread_after, touch_at, touch_of, store_of, goes_unless, effect_alone, alone, outcome_of}
+use Rattle.process.specs.Outcome.{Effect, Outcome, failure, thread_after, touch_at, touch_of, store_of, goes_unless, outcome_of}
 use Rattle.hard_ir.specs.Hardened.{HardParts}
 use Rattle.hard_frames.specs.declared.state.Frame.{Frame}
 use Rattle.hard_frames.specs.Frames.{frames}
@@ -31,12 +30,12 @@ use Rattle.tx_runtime.specs.declared.words.Mode.TheVariants.{Out, In, Plain}
 use Rattle.hard_meaning.specs.State.{Mode, Free, Inside, Worker, State, Upset, seen, seen_in}
 use Rattle.hard_meaning.specs.Aborts.{aborted, Overflow}
 use Rattle.hard_meaning.specs.Effects.{with_worker, mode_after, turns_after, did, has_room_in, where_room, tried}
-use Rattle.hard_meaning.specs.Locks.{MutexCall, mutex_call}
+use Rattle.hard_meaning.specs.Locks.{MutexCall}
 use Rattle.hard_meaning.specs.Turns.{settled, acted_by, acted}
 use Rattle.tx_machine.specs.Own.{OwnParts, once_pending, failure_in, moved_thread}
 use Rattle.tx_machine.specs.Joined.{joined_one, is_in}
 use Rattle.tx_machine.specs.Resolved.{resolved}
-use Rattle.tx_machine.specs.Core.{CoreParts, with_own, is_open, core_aborted, touched_as, core_touched, failure_simply, failure_at, core_moved, core_done, told_as, core_told, core_accessed, took, room_for, finished_as, core_finished, alone_as, core_alone}
+use Rattle.tx_machine.specs.Core.{CoreParts, with_own, is_open, core_aborted, touched_as, failure_at, core_moved, core_done, told_as, core_told, core_accessed, took, finished_as, core_finished, alone_as, core_alone}
 use Rattle.tx_machine.specs.Meant.{state_of, IsTied, StandsAt}
 use Rattle.tx_machine.proofs.Meant.{thread-is, open-is, stays, own-meant, own-tied, own-stands}
 use Rattle.tx_machine.proofs.MeantAborts.{in_mode, aborted-meant, aborted-tied, trapped-meant, trapped-tied}

@@ -1,7 +1,5 @@
 -- Actions of a thread alone are those of the definitions: they can't be done, find a full list, or are done.
-use Rattle.std.proofs.Common.{ℕ, zero, suc, ◌≡◌, ◌∙◌, Bool, true, false, List, [], ◌∷◌, ◌++◌, map, Option, Some, None, slice_get, slice_set, refl, ap, sym, subst}
-use Rattle.std.specs.Prelude.{replicate}
-use Rattle.std.specs.Option.{is_some, option_map_or}
+use Rattle.std.proofs.Common.{ℕ, zero, suc, ◌≡◌, ◌∙◌, Bool, true, false, List, [], ◌∷◌, map, Option, Some, None, slice_set, refl, ap, sym, subst}
 use Rattle.ir_core.specs.declared.types.Loc.{Loc}
 use Rattle.ir_core.specs.declared.values.Side.{Side}
 use Rattle.ir_layout.specs.declared.spans.Span.{Span}
@@ -15,24 +13,18 @@ use Rattle.inst_meaning.specs.declared.actions.Action.{Action}
 use Rattle.inst_meaning.specs.declared.actions.Action.TheVariants.{Assign, Reserve, Read, Write, Update, Pass, Jump, Call, Ask, Create, Join, Exit, Return, Fault}
 use Rattle.inst_meaning.specs.declared.actions.Cause.{Cause}
 use Rattle.inst_meaning.specs.declared.actions.Cause.TheVariants.{Access}
-use Rattle.inst_meaning.specs.declared.actions.Place.{Place}
 use Rattle.process.specs.declared.state.CallStack.{CallStack}
 use Rattle.process.specs.declared.state.Thread.{Thread}
-use Rattle.process.specs.declared.state.Thread.TheVariants.{Running}
-use Rattle.process.specs.code.Moves.{where_done}
 use Rattle.process.specs.code.Threads.{outside_of}
-use Rattle.process.specs.Outcome.{Effect, unless, failure, thread_after, touch_at, touch_of, store_of, goes_unless, alone, outcome_of}
+use Rattle.process.specs.Outcome.{Effect, unless, failure, thread_after, touch_at, touch_of, store_of, alone, outcome_of}
 use Rattle.hard_ir.specs.Hardened.{HardParts}
 use Rattle.hard_frames.specs.declared.state.Frame.{Frame}
 use Rattle.hard_frames.specs.Frames.{frames}
-use Rattle.rtm_core.specs.Transactions.Entry.{Invalid, Full, Entered}
-use Rattle.rtm_core.specs.Transactions.{Transaction, RtmParts, Entry}
 use Rattle.hard_meaning.specs.State.{Mode, Free, Inside, Worker, State, seen}
 use Rattle.hard_meaning.specs.Aborts.{Claim, spared, aborted, Overflow}
 use Rattle.hard_meaning.specs.Effects.{with_worker, mode_after, turns_after, did, has_room_in}
 use Rattle.hard_meaning.specs.Locks.{mutex_call}
 use Rattle.tx_machine.specs.Resolved.{where_valid, resolved}
-use Rattle.tx_machine.proofs.Meant.{set-set}
 use Rattle.tx_machine.proofs.MeantEnds.{twice}
 
 -- ---- actions

@@ -1,5 +1,5 @@
 -- Checks and copies of registers are those of the definitions.
-use Rattle.std.proofs.Common.{ℕ, ◌≡◌, ◌∙◌, Bool, true, false, Option, Some, None, List, refl, ap, sym, subst}
+use Rattle.std.proofs.Common.{ℕ, ◌≡◌, ◌∙◌, Bool, true, false, Option, Some, None, List, refl, ap}
 use Rattle.std.specs.Option.{is_some, option_map_or}
 use Rattle.ir_core.specs.declared.types.Ty.{Ty}
 use Rattle.ir_core.specs.declared.types.Loc.{Loc}
@@ -14,13 +14,13 @@ use Rattle.elide.specs.Watches.{WatchParts}
 use Rattle.rtm_core.specs.Transactions.{Transaction}
 use Rattle.tx_runtime.specs.declared.words.Mode as runtime
 use Rattle.tx_runtime.specs.declared.words.Mode.TheVariants.{Out, In, Plain}
-use Rattle.hard_meaning.specs.State.{Worker, State, Upset, is_inside}
+use Rattle.hard_meaning.specs.State.{Upset, is_inside}
 use Rattle.hard_meaning.specs.Checks.{is_active, same_word}
 use Rattle.hard_meaning.specs.Effects.{with_worker}
 use Rattle.hard_meaning.specs.Turns.{agreed, compared, checked, copied}
 use Rattle.tx_machine.specs.Own.{OwnParts, compared_words, compared_in, once_copied, copied_in, copied_thread}
 use Rattle.tx_machine.specs.Joined.{joined_one, is_in}
-use Rattle.tx_machine.specs.Core.{CoreParts, is_open, agreed_as, compared_at, checked_as, core_checked, copied_at, once_copied_at, copied_as, core_copied}
+use Rattle.tx_machine.specs.Core.{CoreParts, is_open, agreed_as, compared_at, checked_as, core_checked, copied_at, copied_as, core_copied}
 use Rattle.tx_machine.specs.Meant.{state_of, IsTied, StandsAt}
 use Rattle.tx_machine.proofs.Meant.{open-is}
 use Rattle.tx_machine.proofs.MeantAborts.{in_mode, failed-meant, failed-tied, trapped-meant, trapped-tied}

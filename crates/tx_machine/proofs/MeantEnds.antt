@@ -7,21 +7,20 @@ use Rattle.process.specs.declared.state.CallStack.{CallStack}
 use Rattle.process.specs.declared.state.Thread.{Thread}
 use Rattle.process.specs.declared.state.Thread.TheVariants.{Running}
 use Rattle.hard_frames.specs.declared.state.Frame.{Frame}
-use Rattle.elide.specs.Watches.{WatchParts, nothing_watched, watch_of, is_some_held}
+use Rattle.elide.specs.Watches.{WatchParts, nothing_watched, is_some_held}
 use Rattle.rtm_core.specs.Footprint.{seen_through}
-use Rattle.rtm_core.specs.Transactions as rtm
 use Rattle.rtm_core.specs.Transactions.{Transaction, seen_in, seen_by}
 use Rattle.tx_runtime.specs.declared.words.Mode as runtime
 use Rattle.tx_runtime.specs.declared.words.Mode.TheVariants.{Out, In, Plain}
 use Rattle.tx_runtime.specs.Words.{cuts}
 use Rattle.hard_meaning.specs.State.{Worker, State, Upset}
-use Rattle.hard_meaning.specs.Aborts.{Locked, aborted}
+use Rattle.hard_meaning.specs.Aborts.{Locked}
 use Rattle.hard_meaning.specs.Effects.{with_worker}
 use Rattle.hard_meaning.specs.Runtime.{outside, closed, is_empty, can_end, where_ends, ended, cut, cut_if}
 use Rattle.hard_meaning.specs.Turns.{onward}
-use Rattle.tx_machine.specs.Own.{OwnParts, passed_thread, once_passed, once_ended, once_committed}
+use Rattle.tx_machine.specs.Own.{OwnParts, passed_thread, once_ended, once_committed}
 use Rattle.tx_machine.specs.Joined.{joined_one, is_in}
-use Rattle.tx_machine.specs.Core.{CoreParts, own_with, with_own, is_open, core_aborted, pending_in, closed_if, is_holding, closed_by, core_closed, can_if, can_close, passed_if, core_ended, cuts_in, cut_as, core_cut}
+use Rattle.tx_machine.specs.Core.{CoreParts, with_own, is_open, pending_in, closed_if, is_holding, closed_by, core_closed, can_if, can_close, passed_if, core_ended, cuts_in, cut_as, core_cut}
 use Rattle.tx_machine.specs.Meant.{state_of, IsTied, StandsAt}
 use Rattle.tx_machine.proofs.Meant.{get-set, set-set, thread-is, open-is, own-is, own-meant, own-tied, own-stands}
 use Rattle.tx_machine.proofs.MeantAborts.{in_mode, once_changed, all-meant, all-tied, aborted-meant, aborted-tied}

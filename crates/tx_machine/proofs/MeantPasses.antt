@@ -1,7 +1,7 @@
 -- A thread that passes its instruction, counts work or begins a transaction is that of the definitions.
 use Rattle.std.proofs.Common.{ℕ, suc, ◌≡◌, ◌∙◌, Bool, true, false, List, [], Option, Some, None, refl, ap, sym, subst}
 use Rattle.std.specs.Prelude.{nat_lt}
-use Rattle.std.specs.Option.{is_some, option_map_or}
+use Rattle.std.specs.Option.{option_map_or}
 use Rattle.process.specs.declared.state.CallStack.{CallStack}
 use Rattle.process.specs.declared.state.Thread.{Thread}
 use Rattle.process.specs.declared.state.Thread.TheVariants.{Running}
@@ -15,7 +15,7 @@ use Rattle.tx_runtime.specs.declared.words.Mode as runtime
 use Rattle.tx_runtime.specs.declared.words.Mode.TheVariants.{Out, In, Plain}
 use Rattle.tx_runtime.specs.Words as words
 use Rattle.tx_runtime.specs.Words.{tries, begin_if, begin_act}
-use Rattle.hard_meaning.specs.State.{Worker, State, Upset}
+use Rattle.hard_meaning.specs.State.{Worker, Upset}
 use Rattle.hard_meaning.specs.Effects.{with_worker}
 use Rattle.hard_meaning.specs.Runtime as meaning
 use Rattle.hard_meaning.specs.Turns.{onward}
@@ -24,7 +24,7 @@ use Rattle.tx_machine.specs.Joined.{joined_one, is_in}
 use Rattle.tx_machine.specs.Core.{CoreParts, with_own, begun_with, kept_in, core_begun}
 use Rattle.tx_machine.specs.Meant.{state_of, IsTied, StandsAt}
 use Rattle.tx_machine.proofs.Meant.{own-meant, own-tied}
-use Rattle.tx_machine.proofs.MeantAborts.{in_mode, once_changed, all-meant, all-tied}
+use Rattle.tx_machine.proofs.MeantAborts.{in_mode, all-meant, all-tied}
 
 -- ---- another thread in a worker
 

@@ -20,7 +20,7 @@ use Rattle.tx_machine.specs.Joined.{joined_one, joined, is_in}
 use Rattle.tx_machine.specs.Core.{CoreParts, touched_as}
 use Rattle.tx_machine.specs.Meant.{state_of, AreTied, IsTied, StandsAt}
 use Rattle.tx_machine.proofs.Joined.{set-joined, set-same}
-use Rattle.tx_machine.proofs.Undone.{undone_if, cleared_if, struck_own, struck_watches, all-own, all-watches, claim_of, spared_but, struck-joined, becomes-spared}
+use Rattle.tx_machine.proofs.Undone.{undone_if, cleared_if, struck_own, struck_watches, all-own, all-watches, claim_of, struck-joined, becomes-spared}
 use Rattle.tx_machine.proofs.Meant.{length-set, set-tied, thread-is}
 use Rattle.tx_machine.proofs.MeantAborts.{in_mode, undone-mode}
 

@@ -1,5 +1,5 @@
 -- The state that the code's parts stand for, with the upsets as they came; and what always holds of the parts.
-use Rattle.std.specs.Prelude.{ℕ, ◌≤◌, ◌≡◌, Bool, false, List, [], ◌∷◌, Option, Some, None, length, slice_get}
+use Rattle.std.specs.Prelude.{ℕ, ◌≤◌, ◌≡◌, false, List, [], ◌∷◌, Option, Some, length, slice_get}
 use Rattle.std.specs.Option.{is_some}
 use Rattle.ir_layout.specs.Memory.{thread_limit}
 use Rattle.process.specs.declared.state.CallStack.{CallStack}
