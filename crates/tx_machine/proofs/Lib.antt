@@ -14,3 +14,4 @@ pub mod MeantChecks
 pub mod MeantTouches
 pub mod MeantAlone
 pub mod MeantActions
+pub mod MeantMatches

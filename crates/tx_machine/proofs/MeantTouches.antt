@@ -21,7 +21,7 @@ use Rattle.tx_machine.specs.Core.{CoreParts, touched_as}
 use Rattle.tx_machine.specs.Meant.{state_of, AreTied, IsTied, StandsAt}
 use Rattle.tx_machine.proofs.Joined.{set-joined, set-same}
 use Rattle.tx_machine.proofs.Undone.{undone_if, cleared_if, struck_own, struck_watches, all-own, all-watches, claim_of, struck-joined, becomes-spared}
-use Rattle.tx_machine.proofs.Meant.{length-set, set-tied, thread-is}
+use Rattle.tx_machine.proofs.Meant.{length-set, get-set, set-tied, thread-is}
 use Rattle.tx_machine.proofs.MeantAborts.{in_mode, undone-mode}
 
 -- ---- the thread itself is spared
@@ -210,6 +210,15 @@ module _ (p : CoreParts) (t : ℕ) (w : OwnParts) (k : WatchParts) (ups : List U
         (set-tied own_then open_then t w w (touched_one touch store (Some tx)) (own-there (Some tx) at) (struck-tied t touch 0 p.own p.rtm.threads tied.tied) at.tied);
   }
 
+  parts-stands : (x : Option (Transaction (CallStack Frame))) → StandsAt p t w x k → StandsAt (parts_then x) t w (touched_one touch store x) k
+  parts-stands None at = record { made = own-there None at; open_there = open-there None at; watching = watch-there None at; tied = at.tied }
+  parts-stands (Some tx) at = record {
+    made = own-there (Some tx) at;
+    open_there = get-set open_then t (touched_one touch store (Some tx)) (Some tx) (open-there (Some tx) at);
+    watching = watch-there (Some tx) at;
+    tied = at.tied;
+  }
+
 module _ (p : CoreParts) (t : ℕ) (w : OwnParts) (x : Option (Transaction (CallStack Frame))) (k : WatchParts) (at : StandsAt p t w x k) (ups : List Upset)
     (touch : Touch) (store : Option Store) where
   parts-are : touched_as Entered touch store t p ≡ parts_then p t w k ups touch store x
@@ -224,3 +233,10 @@ module _ (p : CoreParts) (t : ℕ) (w : OwnParts) (x : Option (Transaction (Call
 
   pub touched-tied : IsTied p → IsTied (touched_as Entered touch store t p)
   touched-tied tied = subst IsTied (sym parts-are) (parts-tied p t w k ups touch store x at tied)
+
+  -- the thread as it is then
+  pub touched-stands : StandsAt (touched_as Entered touch store t p) t w (touched_one touch store x) k
+  touched-stands = subst (λ (q : CoreParts). StandsAt q t w (touched_one touch store x) k) (sym parts-are) (parts-stands p t w k ups touch store x at)
+
+  pub touched-worker : joined_one w (touched_one touch store x) k ≡ record (joined_one w x k) { mode = mode_after false (Some touch) store (joined_one w x k).mode }
+  touched-worker = touched-mode w.words.mode touch store w x k
