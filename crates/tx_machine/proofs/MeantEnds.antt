@@ -14,7 +14,7 @@ use Rattle.tx_runtime.specs.declared.words.Mode as runtime
 use Rattle.tx_runtime.specs.declared.words.Mode.TheVariants.{Out, In, Plain}
 use Rattle.tx_runtime.specs.Words.{cuts}
 use Rattle.hard_meaning.specs.State.{Worker, State, Upset}
-use Rattle.hard_meaning.specs.Aborts.{Locked}
+use Rattle.hard_meaning.specs.Aborts.{Locked, aborted}
 use Rattle.hard_meaning.specs.Effects.{with_worker}
 use Rattle.hard_meaning.specs.Runtime.{outside, closed, is_empty, can_end, where_ends, ended, cut, cut_if}
 use Rattle.hard_meaning.specs.Turns.{onward}
@@ -239,6 +239,25 @@ module _ (p : CoreParts) (t : ℕ) (w : OwnParts) (x : Option (Transaction (Call
 
     pub moved-if-tied : IsTied p → IsTied (moved_if (can_close p t) g t (core_closed t p))
     moved-if-tied tied = subst IsTied (sym moved-is) (moved-tied p t w k ups g x (is_some_held k.held) at tied)
+
+    -- where it can
+    pub moved-closed : can_close p t ≡ true → state_of (with_own t (with_thread g) (core_closed t p)) ups
+        ≡ closed (state_of p ups) t (joined_one w x k).mode (record (joined_one w x k) { thread = g w.thread })
+    moved-closed e =
+        let s : State = state_of p ups in
+        let one : Worker = joined_one w x k in
+        ap (λ (b : Bool). state_of (moved_if b g t (core_closed t p)) ups) (sym e) ∙ moved-meant
+        ∙ ap (λ (b : Bool). where_ends b s t one (closed s t one.mode (record one { thread = g w.thread }))) (sym can-meant ∙ e)
+
+    pub moved-closed-tied : can_close p t ≡ true → IsTied p → IsTied (with_own t (with_thread g) (core_closed t p))
+    moved-closed-tied e tied = subst (λ (b : Bool). IsTied (moved_if b g t (core_closed t p))) e (moved-if-tied tied)
+
+  -- where it can't, it is aborted
+  pub held-closed : can_close p t ≡ false → state_of (core_closed t p) ups ≡ with_worker (state_of p ups) t (aborted Locked (joined_one w x k))
+  held-closed e =
+      let s : State = state_of p ups in
+      let one : Worker = joined_one w x k in
+      closed-meant ∙ ap (λ (b : Bool). where_ends b s t one (closed s t one.mode one)) (sym can-meant ∙ e)
 
   ended-is : core_ended t p ≡ moved_if (can_close p t) passed_thread t (core_closed t p)
   ended-is = passed-if (can_close p t) t (core_closed t p)

@@ -1,5 +1,5 @@
 -- A word that was read inside, and isn't the one that is asked for: its thread is aborted after those in the way of its access.
-use Rattle.std.proofs.Common.{ℕ, ◌≡◌, ◌∙◌, List, map, Option, Some, None, slice_set, false, refl, ap}
+use Rattle.std.proofs.Common.{ℕ, ◌≡◌, ◌∙◌, List, map, Option, Some, None, false, ap}
 use Rattle.mem_image.specs.Touches.{Touch}
 use Rattle.process.specs.declared.state.CallStack.{CallStack}
 use Rattle.process.specs.declared.state.Thread.{Thread}
