@@ -6,3 +6,12 @@ pub mod Undone
 pub mod StruckFrames
 pub mod Targets
 pub mod Standing
+pub mod Meant
+pub mod MeantAborts
+pub mod MeantPasses
+pub mod MeantEnds
+pub mod MeantChecks
+pub mod MeantTouches
+pub mod MeantAlone
+pub mod MeantActions
+pub mod MeantMatches

@@ -128,7 +128,7 @@ module _ (t : ℕ) (touch : Touch) where
       by_strike true None rest = rest
       by_strike false kept rest = rest
 
-  all-own : (front : List OwnParts) (xs : List (Option (Transaction (CallStack Frame)))) (ws : List OwnParts)
+  pub all-own : (front : List OwnParts) (xs : List (Option (Transaction (CallStack Frame)))) (ws : List OwnParts)
       → own_all (aborts_from (length front) xs) (front ++ ws) ≡ front ++ struck_own (length front) xs ws
   all-own front [] ws = refl
   all-own front (x ∷ xs) [] = ap (own_all (aborts_from (length front) (x ∷ xs))) (append-nil front)
@@ -163,7 +163,7 @@ module _ (t : ℕ) (touch : Touch) where
       by_strike true None rest = rest
       by_strike false kept rest = rest
 
-  all-watches : (front : List WatchParts) (xs : List (Option (Transaction (CallStack Frame)))) (ks : List WatchParts)
+  pub all-watches : (front : List WatchParts) (xs : List (Option (Transaction (CallStack Frame)))) (ks : List WatchParts)
       → watches_all (aborts_from (length front) xs) (front ++ ks) ≡ front ++ struck_watches (length front) xs ks
   all-watches front [] ks = refl
   all-watches front (x ∷ xs) [] = ap (watches_all (aborts_from (length front) (x ∷ xs))) (append-nil front)

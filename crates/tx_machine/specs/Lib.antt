@@ -5,3 +5,4 @@ pub mod Core
 pub mod Resolved
 pub mod Struck
 pub mod Log
+pub mod Meant
