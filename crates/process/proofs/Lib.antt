@@ -1,4 +1,4 @@
 mod Alone
-mod Outsides
+pub mod Outsides
 mod Resumed
 mod Reversed

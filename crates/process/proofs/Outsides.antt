@@ -25,7 +25,7 @@ use Rattle.process.specs.code.Moves.{answered}
 use Rattle.process.specs.code.Threads.{answer_to, world_after, thread_asked, acted_by, runs, step_of, finished, finished_at, with_finished, with_added}
 
 -- a request that isn't answered leaves the environment
-abbrev quiet : WorldParts → WorldParts × Reply → Type 0
+abbrev pub quiet : WorldParts → WorldParts × Reply → Type 0
 quiet world (new, Answers n) = Unit {0}
 quiet world (new, MustWait) = new ≡ world
 quiet world (new, Refuses cause) = new ≡ world
@@ -42,7 +42,7 @@ quiet-allocated : (fits : Bool) (size : ℕ) (world : WorldParts) → quiet worl
 quiet-allocated true size world = tt
 quiet-allocated false size world = tt
 
-quiet-asked : (request : Request) (t : ℕ) (world : WorldParts) → quiet world (asked_of request t world)
+pub quiet-asked : (request : Request) (t : ℕ) (world : WorldParts) → quiet world (asked_of request t world)
 quiet-asked (Lock address) t world = quiet-locked (owner_of world.owners address) address t world
 quiet-asked (Unlock address) t world = quiet-unlocked (holds (owner_of world.owners address) t) address world
 quiet-asked (Put n) t world = tt

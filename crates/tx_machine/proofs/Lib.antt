@@ -2,6 +2,7 @@ pub mod Joined
 pub mod Accesses
 pub mod Cuts
 pub mod Told
+pub mod Asked
 pub mod Undone
 pub mod StruckFrames
 pub mod Targets

@@ -10,6 +10,9 @@ use Rattle.inst_meaning.specs.Accesses.{updated}
 use Rattle.inst_meaning.specs.declared.actions.Action.{Action}
 use Rattle.inst_meaning.specs.declared.actions.Action.TheVariants.{Assign, Reserve, Read, Write, Update, Pass, Jump, Call, Ask, Create, Join, Exit, Return, Fault}
 use Rattle.inst_meaning.specs.declared.actions.Cause.{Cause}
+use Rattle.inst_meaning.specs.declared.actions.Request.{Request}
+use Rattle.inst_meaning.specs.declared.actions.Reply.{Reply}
+use Rattle.inst_meaning.specs.declared.actions.Reply.TheVariants.{Answers, Waits, Refuses}
 use Rattle.inst_meaning.specs.World.{WorldParts}
 use Rattle.process.specs.declared.state.CallStack.{CallStack}
 use Rattle.process.specs.declared.state.Thread.{Thread}
@@ -31,9 +34,10 @@ use Rattle.rtm_core.specs.declared.Got.TheVariants as gots
 use Rattle.rtm_core.specs.Calls.{conflict_aborts, reading, writing, updating, got_of}
 use Rattle.hard_meaning.specs.Aborts.{Status, Mismatch, Locked, Conflict, Overflow, Other}
 use Rattle.hard_meaning.specs.Checks.{is_active}
+use Rattle.hard_meaning.specs.Locks.{mutex_request, taken_by}
 use Rattle.tx_machine.specs.Resolved.{resolved}
 use Rattle.tx_machine.specs.Undone.{own_all, watches_all}
-use Rattle.tx_machine.specs.Own.{OwnParts, once_passed, once_begun, kept_thread, once_ticked, once_ended, once_committed, once_pending, once_unpending, once_undone, compared_in, copied_in, copied_thread, failure_in, moved_thread}
+use Rattle.tx_machine.specs.Own.{OwnParts, once_passed, once_begun, kept_thread, once_ticked, once_ended, once_committed, once_pending, once_unpending, once_undone, compared_in, copied_in, copied_thread, failure_in, moved_thread, reply_in, world_in, asked_thread}
 
 pub record CoreParts : Type 0 where
   pub program : HardParts
@@ -315,3 +319,36 @@ watchers_aborted (suc u) t address p = watcher_if (watches_other (watchers_abort
 
 abbrev pub core_taken : ℕ → ℕ → CoreParts → CoreParts
 core_taken address t p = watchers_aborted (length p.own) t address p
+
+-- ---- requests to the environment
+
+-- what it replies to a thread
+abbrev pub reply_at : CoreParts → ℕ → Request → Reply
+reply_at p t request = option_map_or (λ (w : OwnParts). reply_in request t p.world w.thread) (slice_get p.own t) Waits
+
+abbrev pub world_at : CoreParts → ℕ → Request → WorldParts
+world_at p t request = option_map_or (λ (w : OwnParts). world_in request t p.world w.thread) (slice_get p.own t) p.world
+
+-- a thread has asked
+abbrev pub core_requested : Option (Side × Loc) → Request → ℕ → CoreParts → CoreParts
+core_requested target request t p = record p {
+  own = own_with t (λ w. record w { thread = asked_thread p.program target request t p.world w.thread }) p.own;
+  world = world_at p t request;
+}
+
+-- the mutex that it takes, if any, is taken from those that watch it
+abbrev pub taken_as : Option ℕ → ℕ → CoreParts → CoreParts
+taken_as None t p = p
+taken_as (Some address) t p = core_taken address t p
+
+abbrev pub core_taking : Request → ℕ → CoreParts → CoreParts
+core_taking request t p = taken_as (taken_by (mutex_request request)) t p
+
+-- a request is answered, must wait, or can't be made
+abbrev pub replied_as : Reply → Bool → Option (Side × Loc) → Request → ℕ → CoreParts → CoreParts
+replied_as (Answers n) retires target request t p = core_taking request t (core_requested target request t (core_told retires t p))
+replied_as Waits retires target request t p = p
+replied_as (Refuses cause) retires target request t p = core_trapped t p
+
+abbrev pub core_asked : Bool → Option (Side × Loc) → Request → ℕ → CoreParts → CoreParts
+core_asked retires target request t p = replied_as (reply_at (core_told retires t p) t request) retires target request t p

@@ -10,14 +10,14 @@ ghost use Rattle.rtm_core.specs.Transactions.{entry_of, seen_by, word_seen};
 ghost use Rattle.tx_machine.specs.Resolved.{resolved_access};
 ghost use Rattle.tx_machine.specs.Own.{meant, once_passed, once_ticked};
 ghost use Rattle.hard_meaning.specs.Checks.{is_active};
-ghost use Rattle.tx_machine.specs.Core.{CanPassIn, BeginsOutside, with_own, is_open, place_in, core_aborted, core_failed, core_trapped, core_begun, core_closed, can_close, core_ended, core_cut, compared_at, core_checked, copied_at, once_copied_at, core_copied, core_touched, failure_simply, failure_at, core_moved, core_done, core_told, core_untold, core_accessed, took, room_for, core_alone, watcher_if, watches_other, core_taken};
+ghost use Rattle.tx_machine.specs.Core.{CanPassIn, BeginsOutside, with_own, is_open, place_in, core_aborted, core_failed, core_trapped, core_begun, core_closed, can_close, core_ended, core_cut, compared_at, core_checked, copied_at, once_copied_at, core_copied, core_touched, failure_simply, failure_at, core_moved, core_done, core_told, core_untold, core_accessed, took, room_for, core_alone, watcher_if, watches_other, core_taken, core_taking, reply_at, core_requested, core_asked};
 
 use crate::conflicts::undo_each;
 use crate::workers::{Status, Worker};
 use elide::Elision;
 use hard_frames::{Frame, Program, Stop, Words as Room, place_text};
 use hard_ir::When;
-use inst_meaning::{Action, Cause, Place, Update, World};
+use inst_meaning::{Action, Cause, Place, Reply, Request, Update, World};
 use ir_core::{Loc, Name, Side, Tid, Ty};
 use process::{CallStack, Thread};
 use rtm_core::{Aborted, Got, Rtm};
@@ -534,6 +534,72 @@ impl<'a> Core<'a> {
     {
         for u in 0..self.workers.len() {
             self.abort_watcher(Tid(u as u32), t, address);
+        }
+    }
+
+    // The mutex that a request takes is taken from those that watch it.
+    fn take(&mut self, t: Tid, request: Request)
+        ensures parts { self.new ≡ core_taking request t.0 self.old }
+        ensures count { length self.new.own ≡ length self.old.own }
+    {
+        match request {
+            Request::Lock(address) => self.abort_watchers(t, address),
+            Request::Unlock(_)
+            | Request::Put(_)
+            | Request::Output(_)
+            | Request::Allocate(_)
+            | Request::Free
+            | Request::Argument(_) => {}
+        }
+    }
+
+    // A thread asks the environment for something; where that answers, the thread has its result.
+    fn request(
+        &mut self,
+        t: Tid,
+        target: Option<(Side, Loc)>,
+        request: Request,
+    ) -> Result<Reply, AllocError>
+        requires made { t.0 < length self.old.own }
+        requires pass { CanPassIn self.old t.0 }
+        ensures reply { IfOk result (λ reply. reply ≡ reply_at self.old t.0 request) }
+        ensures ok { OnOk result (self.new ≡ core_requested target request t.0 self.old) }
+        ensures err { OnErr result (self.new ≡ self.old) }
+    {
+        self.workers[t.0 as usize].ask(&self.program, &mut self.world, t, target, request)
+    }
+
+    // A thread asks the environment for something, outside or where no mutex is asked for.
+    fn ask(
+        &mut self,
+        t: Tid,
+        target: Option<(Side, Loc)>,
+        retires: bool,
+        request: Request,
+    ) -> Result<(), AllocError>
+        requires made { t.0 < length self.old.own }
+        requires pass { CanPassIn self.old t.0 }
+        ensures ok { OnOk result (self.new ≡ core_asked retires target request t.0 self.old) }
+        ensures err { OnErr result (self.new ≡ self.old) }
+    {
+        self.tell(t, retires)?;
+        match self.request(t, target, request) {
+            Err(error) => {
+                self.untell(t, retires);
+                Err(error)
+            }
+            Ok(Reply::Waits) => {
+                self.untell(t, retires);
+                Ok(())
+            }
+            Ok(Reply::Refuses(_)) => {
+                self.untell(t, retires);
+                self.trap(t)
+            }
+            Ok(Reply::Answers(_)) => {
+                self.take(t, request);
+                Ok(())
+            }
         }
     }
 }
