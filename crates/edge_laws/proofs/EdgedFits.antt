@@ -22,7 +22,7 @@ use Rattle.hard_ir.specs.Images.{is_named}
 use Rattle.hard_ir.specs.EdgeChecks.{Marks, marks_of, names_after, with_names, raised, bit, edge_check, edged_func, edged_funcs, with_funcs, edged_by, edged, is_over, first_over}
 use Rattle.hard_laws.proofs.Accepted.{Sound, sound}
 use Rattle.hard_laws.proofs.Rows.{split-is-table}
-use Rattle.hard_laws.proofs.Fitting.{fits}
+use Rattle.hard_laws.proofs.Fitting.{fits, bare-ticked}
 use Rattle.hard_laws.proofs.Numbered.{bare, bare_block, bare_module, bare-fits, fits-bare}
 use Rattle.renamed_modules.specs.Numbered.{AreNumbered, HasFewNames}
 use Rattle.renamed_modules.proofs.NumberedModules.{are-numbered}
@@ -57,24 +57,6 @@ from-map : {A B : Type 0} (f : A → B) (xs : List A) (k : ℕ) (y : B) → slic
 from-map f [] k y at = cc
 from-map f (x ∷ xs) zero y at = (x, refl, cc)
 from-map f (x ∷ xs) (suc k) y at = from-map f xs k y at
-
--- ---- ticks without numbers
-
-bare-work : (work : ℕ) (item : HInst) → bare (with_work work item) ≡ bare item
-bare-work work (Tick old) = refl
-bare-work work (Do side inst retires) = refl
-bare-work work (Mov ty reg) = refl
-bare-work work (Chk when ty reg) = refl
-bare-work work (ChkMem ty ptr val) = refl
-bare-work work Cut = refl
-bare-work work Begin = refl
-bare-work work End = refl
-
-bare-ticked : (since : ℕ) (list : List HInst) → map bare (ticked since list) ≡ map bare list
-bare-ticked since [] = refl
-bare-ticked since (item ∷ list) =
-    ap (λ (x : HInst). x ∷ map bare (ticked (since_ender since item) list)) (bare-work (since + to_ender (item ∷ list)) item)
-    ∙ ap (λ (xs : List HInst). bare item ∷ xs) (bare-ticked (since_ender since item) list)
 
 -- ---- one function
 

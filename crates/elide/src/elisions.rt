@@ -40,6 +40,22 @@ impl Elision {
         Ok(Elision { watches })
     }
 
+    /// Whether a thread can watch and hold an address: it doesn't hold it, and watches it or fewer than 16 others.
+    pub fn can_lock(&self, t: Tid, address: u64) -> bool
+        requires thread { t.0 < thread_limit }
+        ensures { result ≡ can_lock (watch_of self.now t.0) address }
+    {
+        self.watches[t.0 as usize].can_lock(address)
+    }
+
+    /// Whether a thread holds an address.
+    pub fn can_unlock(&self, t: Tid, address: u64) -> bool
+        requires thread { t.0 < thread_limit }
+        ensures { result ≡ can_unlock (watch_of self.now t.0) address }
+    {
+        self.watches[t.0 as usize].has(address)
+    }
+
     /// A thread watches and holds an address. The answer is `false`, and nothing changes, exactly where it holds it, or
     /// doesn't watch it and watches 16 others.
     pub fn lock(&mut self, t: Tid, address: u64) -> bool

@@ -58,6 +58,13 @@ impl Watch {
         !self.held.is_empty()
     }
 
+    /// Whether an address can be watched and held: it isn't held, and is watched or can be.
+    pub(crate) fn can_lock(&self, address: u64) -> bool
+        ensures { result ≡ can_lock self.now address }
+    {
+        !self.has(address) && self.watched.takes(address)
+    }
+
     /// Watches and holds an address, unless it is held, or is a new one beside as many as can be watched.
     pub(crate) fn lock(&mut self, address: u64) -> bool
         ensures done { result ≡ can_lock self.old address }

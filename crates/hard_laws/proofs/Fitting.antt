@@ -71,7 +71,7 @@ bare-work work Cut = refl
 bare-work work Begin = refl
 bare-work work End = refl
 
-bare-ticked : (since : ℕ) (list : List HInst) → map bare (ticked since list) ≡ map bare list
+pub bare-ticked : (since : ℕ) (list : List HInst) → map bare (ticked since list) ≡ map bare list
 bare-ticked since [] = refl
 bare-ticked since (item ∷ list) =
     ap (λ (x : HInst). x ∷ map bare (ticked (since_ender since item) list)) (bare-work (since + to_ender (item ∷ list)) item)

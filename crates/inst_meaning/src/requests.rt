@@ -1,9 +1,10 @@
 //! The world, and what externals ask of it.
 ghost use Rattle.std.specs.Prelude.{◌≡◌, IfOk, OnOk, OnErr, slice_index_or};
+ghost use Rattle.std.specs.Option.{is_some};
 ghost use Rattle.inst_meaning.specs.declared.actions.Reply.TheVariants.{Answers};
 ghost use Rattle.inst_meaning.specs.declared.actions.Request.TheVariants.{Lock, Unlock, Allocate};
 ghost use Rattle.inst_meaning.specs.Phis.{assigned};
-ghost use Rattle.inst_meaning.specs.World.{opening_world, given_out, heap_next, asked_of, given_to};
+ghost use Rattle.inst_meaning.specs.World.{opening_world, given_out, heap_next, asked_of, given_to, owner_of};
 
 use crate::{Cause, Registers, Reply, Request};
 use ir_core::{Loc, Out, Outs, Seq, Tid};
@@ -52,6 +53,13 @@ impl World {
             arguments,
             outputs: Vec::new(alloc),
         })
+    }
+
+    /// Whether a lock has an owner.
+    pub fn is_owned(&self, address: u64) -> bool
+        ensures { result ≡ is_some (owner_of self.now.owners address) }
+    {
+        self.owners.contains_key(&address)
     }
 
     /// What the run gave out so far.
