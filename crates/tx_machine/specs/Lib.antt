@@ -6,3 +6,4 @@ pub mod Resolved
 pub mod Struck
 pub mod Log
 pub mod Meant
+pub mod Turned
