@@ -1,13 +1,14 @@
 -- Turns of threads, as the code does them: actions that take more than a thread, checks of memory, a thread's end, and one instruction.
-use Rattle.std.specs.Prelude.{ℕ, zero, suc, ◌-◌, ◌%◌, ◌^◌, nat_eq, nat_lt, ◌&&◌, Bool, true, false, List, [], ◌∷◌, ◌++◌, Option, Some, None, length, take, slice_get, slice_set}
+use Rattle.std.specs.Prelude.{ℕ, zero, suc, ◌-◌, ◌%◌, ◌^◌, nat_eq, nat_lt, ◌&&◌, Bool, true, false, List, [], ◌∷◌, ◌++◌, Option, Some, None, length, take, replicate, slice_get, slice_set}
 use Rattle.std.specs.Option.{option_map, option_map_or, is_none}
 use Rattle.ir_core.specs.declared.types.Loc.{Loc}
 use Rattle.ir_core.specs.declared.types.Ty.{Ty}
 use Rattle.ir_core.specs.declared.types.Width.{Width}
 use Rattle.ir_core.specs.declared.types.Width.TheVariants.{W64}
 use Rattle.ir_core.specs.declared.values.Side.{Side}
-use Rattle.ir_layout.specs.Memory.{is_valid, thread_limit}
+use Rattle.ir_layout.specs.Memory.{is_valid, thread_limit, layout_of}
 use Rattle.mem_image.specs.Accesses.{bytes}
+use Rattle.mem_image.specs.Opening.{opening}
 use Rattle.ir_core.specs.declared.instruction.Inst.{Inst}
 use Rattle.inst_meaning.specs.declared.actions.Action.{Action}
 use Rattle.inst_meaning.specs.declared.actions.Action.TheVariants.{Assign, Reserve, Read, Write, Update, Pass, Jump, Call, Ask, Create, Join, Exit, Return, Fault}
@@ -15,11 +16,12 @@ use Rattle.inst_meaning.specs.declared.actions.Place.{Place}
 use Rattle.inst_meaning.specs.declared.actions.Request.{Request}
 use Rattle.inst_meaning.specs.Action.{place_at}
 use Rattle.inst_meaning.specs.Operands.{memory_width}
-use Rattle.inst_meaning.specs.World.{owner_of}
+use Rattle.inst_meaning.specs.World.{owner_of, opening_world}
 use Rattle.process.specs.declared.state.CallStack.{CallStack}
 use Rattle.process.specs.declared.state.Thread.{Thread}
 use Rattle.process.specs.declared.state.Thread.TheVariants.{Running, Exiting, Ended}
 use Rattle.process.specs.State.{new_thread}
+use Rattle.src_meaning.specs.State.{main_of}
 use Rattle.hard_ir.specs.declared.instruction.HVal.{HVal}
 use Rattle.hard_ir.specs.declared.instruction.HInst.{HInst}
 use Rattle.hard_ir.specs.declared.instruction.HInst.TheVariants.{Cut, Begin, End as EndTransaction, Tick, Chk, ChkMem, Mov, Do}
@@ -28,7 +30,7 @@ use Rattle.hard_frames.specs.declared.outcome.Stop.TheVariants.{End}
 use Rattle.hard_frames.specs.declared.state.Frame.{Frame}
 use Rattle.hard_frames.specs.Code.{inst_at}
 use Rattle.hard_frames.specs.Frames.{frames, action_on, destination_on, operand_word}
-use Rattle.elide.specs.Watches.{WatchParts, watch_of, can_lock, once_locked, can_unlock, once_unlocked}
+use Rattle.elide.specs.Watches.{WatchParts, nothing_watched, watch_of, can_lock, once_locked, can_unlock, once_unlocked}
 use Rattle.rtm_core.specs.declared.Got.{Got}
 use Rattle.rtm_core.specs.declared.Got.TheVariants as gots
 use Rattle.rtm_core.specs.Transactions.{entry_of, word_seen}
@@ -266,3 +268,17 @@ turned_as Ended t p = p
 -- a turn of the thread with a number: one that was never made does nothing
 abbrev pub core_turn : ℕ → CoreParts → CoreParts
 core_turn t p = option_map_or (λ (w : OwnParts). turned_as w.thread t p) (slice_get p.own t) p
+
+-- ---- the opening
+
+-- thread 0 stands at the entry of `main`, outside transactions
+abbrev pub core_opening : HardParts → List ℕ → CoreParts
+core_opening h arguments = record {
+  program = h;
+  rtm = record { memory = opening (layout_of h.heads) h.heads.globals; threads = replicate thread_limit None };
+  watches = replicate thread_limit nothing_watched;
+  own = new_own (new_thread (frames h) 0 (main_of h.heads) []) ∷ [];
+  world = opening_world arguments;
+  turns = [];
+  stop = None;
+}

@@ -10,15 +10,17 @@ ghost use Rattle.rtm_core.specs.Transactions.{entry_of, seen_by, word_seen};
 ghost use Rattle.tx_machine.specs.Resolved.{resolved_access};
 ghost use Rattle.tx_machine.specs.Own.{meant, once_passed, once_ticked};
 ghost use Rattle.hard_meaning.specs.Checks.{is_active};
+ghost use Rattle.tx_machine.specs.Turned.{core_opening};
 ghost use Rattle.tx_machine.specs.Core.{CanPassIn, BeginsOutside, with_own, is_open, place_in, core_aborted, core_failed, core_trapped, core_begun, core_closed, can_close, core_ended, core_cut, compared_at, core_checked, copied_at, once_copied_at, core_copied, core_touched, failure_simply, failure_at, core_moved, core_done, core_told, core_untold, core_accessed, took, room_for, core_alone, watcher_if, watches_other, core_taken, core_taking, reply_at, core_requested, core_asked};
 
 use crate::conflicts::undo_each;
 use crate::workers::{Status, Worker};
 use elide::Elision;
 use hard_frames::{Frame, Program, Stop, Words as Room, place_text};
-use hard_ir::When;
+use hard_ir::{Hardened, When};
 use inst_meaning::{Action, Cause, Place, Reply, Request, Update, World};
 use ir_core::{Loc, Name, Side, Tid, Ty};
+use ir_layout::THREAD_LIMIT;
 use process::{CallStack, Thread};
 use rtm_core::{Aborted, Got, Rtm};
 use std::alloc::{AllocError, Global};
@@ -78,6 +80,33 @@ impl<'a> Model for Core<'a> {
 }
 
 impl<'a> Core<'a> {
+    /// The opening of a hardened program with these arguments.
+    pub(crate) fn new(alloc: Global, h: &'a Hardened, args: &[u64]) -> Result<Core<'a>, AllocError>
+        ensures { IfOk result (λ core. core ≡ core_opening h.now args.now) }
+    {
+        let program = Program::new(alloc, h)?;
+        let image = program.image(alloc)?;
+        let rtm = Rtm::new(alloc, image)?;
+        let elision = Elision::new(alloc)?;
+        let world = World::new(alloc, args)?;
+        let main = Thread::start(alloc, &program, 0, program.main(), &[])?;
+        let mut workers = Vec::new(alloc);
+        workers.push(Worker::new(alloc, main))?;
+        let aborted = Vec::with_capacity(alloc, THREAD_LIMIT)?;
+        Ok(Core {
+            program,
+            rtm,
+            elision,
+            workers,
+            world,
+            turns: TurnLog::new(alloc),
+            stop: None,
+            aborted,
+            room: Room::new(alloc),
+            alloc,
+        })
+    }
+
     // The transaction of a thread is aborted, where it has one.
     pub(crate) fn abort(&mut self, t: Tid, status: Status)
         requires { t.0 < length self.old.own }
