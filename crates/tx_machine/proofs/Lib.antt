@@ -16,3 +16,5 @@ pub mod MeantTouches
 pub mod MeantAlone
 pub mod MeantActions
 pub mod MeantMatches
+pub mod Turned
+pub mod Programs
