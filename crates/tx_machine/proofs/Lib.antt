@@ -16,3 +16,4 @@ pub mod MeantTouches
 pub mod MeantAlone
 pub mod MeantActions
 pub mod MeantMatches
+pub mod MeantTakes

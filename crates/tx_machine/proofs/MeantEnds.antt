@@ -26,7 +26,7 @@ use Rattle.tx_machine.proofs.Meant.{get-set, set-set, thread-is, open-is, own-is
 use Rattle.tx_machine.proofs.MeantAborts.{in_mode, once_changed, all-meant, all-tied, aborted-meant, aborted-tied}
 use Rattle.tx_machine.proofs.MeantPasses.{with_thread, thread-meant, thread-tied, passed-meant, passed-tied}
 
-index-there : {A : Type 0} (xs : List A) (t : ℕ) (x d : A) → slice_get xs t ≡ Some x → slice_index_or xs t d ≡ x
+pub index-there : {A : Type 0} (xs : List A) (t : ℕ) (x d : A) → slice_get xs t ≡ Some x → slice_index_or xs t d ≡ x
 index-there [] zero x d e = cc
 index-there [] (suc t) x d e = cc
 index-there (y ∷ xs) zero x d e = cc
