@@ -17,3 +17,5 @@ pub mod MeantAlone
 pub mod MeantActions
 pub mod MeantMatches
 pub mod MeantTakes
+pub mod MeantCalls
+pub mod MeantRequests
