@@ -19,3 +19,4 @@ pub mod MeantMatches
 pub mod MeantTakes
 pub mod MeantCalls
 pub mod MeantRequests
+pub mod MeantWatches

@@ -271,7 +271,7 @@ pub no-touch-room : (m : Mode) → has_room_in m None ≡ true
 no-touch-room (Free plain) = refl
 no-touch-room (Inside tx) = refl
 
-acted-none : (h : HardParts) (s : State) (t : ℕ) (w : Worker) (stack : CallStack Frame) (target : Option (Side × Loc)) (retires : Bool) (action : Action) (m : Mode)
+pub acted-none : (h : HardParts) (s : State) (t : ℕ) (w : Worker) (stack : CallStack Frame) (target : Option (Side × Loc)) (retires : Bool) (action : Action) (m : Mode)
     → acted_by h s t w stack target retires action m None ≡ settled h s t w stack.frame retires None (outcome_of (frames h) (seen s w.mode) t target stack action)
 acted-none h s t w stack target retires action (Free plain) = refl
 acted-none h s t w stack target retires action (Inside tx) = refl
