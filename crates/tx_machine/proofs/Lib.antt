@@ -20,3 +20,4 @@ pub mod MeantTakes
 pub mod MeantCalls
 pub mod MeantRequests
 pub mod MeantWatches
+pub mod MeantJoins

@@ -106,7 +106,7 @@ told-turns In true w (Some tx) k t turns e = refl
 told-turns In false w None k t turns e = refl
 told-turns In false w (Some tx) k t turns e = refl
 
-room-mode : (mode : runtime.Mode) (w : OwnParts) (x : Option (Transaction (CallStack Frame))) (k : WatchParts) (touch : Touch) → is_some x ≡ is_in mode
+pub room-mode : (mode : runtime.Mode) (w : OwnParts) (x : Option (Transaction (CallStack Frame))) (k : WatchParts) (touch : Touch) → is_some x ≡ is_in mode
     → rtm.has_room_in touch x ≡ has_room_in (joined_one (in_mode mode w) x k).mode (Some touch)
 room-mode Out w None k touch e = refl
 room-mode Out w (Some tx) k touch e = cc
@@ -205,12 +205,12 @@ module _ (p : CoreParts) (t : ℕ) (w : OwnParts) (x : Option (Transaction (Call
 
 -- ---- and memory is touched
 
-abbrev takes : Entry → Bool
+abbrev pub takes : Entry → Bool
 takes Invalid = true
 takes Full = false
 takes Entered = true
 
-took-of : (entry : Entry) (n : ℕ) → took (got_of entry n) ≡ takes entry
+pub took-of : (entry : Entry) (n : ℕ) → took (got_of entry n) ≡ takes entry
 took-of Invalid n = refl
 took-of Full n = refl
 took-of Entered n = refl
@@ -263,7 +263,7 @@ module _ (t : ℕ) (q : CoreParts) where
   finished-some (Return n) touch e = cc
   finished-some (Fault cause) touch e = cc
 
-places-same : (x : Option (Transaction (CallStack Frame))) (mem : Memory) → (rtm.seen_in x mem).places ≡ mem.places
+pub places-same : (x : Option (Transaction (CallStack Frame))) (mem : Memory) → (rtm.seen_in x mem).places ≡ mem.places
 places-same None mem = refl
 places-same (Some tx) mem = refl
 
@@ -290,7 +290,7 @@ module _ (p : CoreParts) (t : ℕ) (w : OwnParts) (x : Option (Transaction (Call
   abbrev one : Worker
   one = joined_one w x k
 
-  abbrev effect_with : Option Touch → Option Store → Effect Frame
+  abbrev pub effect_with : Option Touch → Option Store → Effect Frame
   effect_with touch store = record { thread = thread; world = p.world; born = None; touch = touch; store = store }
 
   q-meant : state_of q ups ≡ moved_state s t one retires thread
@@ -304,7 +304,7 @@ module _ (p : CoreParts) (t : ℕ) (w : OwnParts) (x : Option (Transaction (Call
       ∙ ap (λ (b : Bool). where_room b s t one (did s t one retires None (effect_with None None))) (sym (no-touch-room one.mode))
 
   module _ (touch : Touch) (store : Option Store) where
-    done-q : state_of (touched_as Entered touch store t q) ups ≡ did s t one retires None (effect_with (Some touch) store)
+    pub done-q : state_of (touched_as Entered touch store t q) ups ≡ did s t one retires None (effect_with (Some touch) store)
     done-q =
         let effect_of : Thread Frame → Effect Frame = λ th. record { thread = th; world = p.world; born = None; touch = Some touch; store = store } in
         touched-meant q t v x k (moved-stands p t w x k at ups retires g) ups touch store
@@ -314,7 +314,7 @@ module _ (p : CoreParts) (t : ℕ) (w : OwnParts) (x : Option (Transaction (Call
         ∙ ap (λ (u : Worker). did (moved_state s t one retires thread) t u false None (effect_of thread)) v-is
         ∙ did-after s t one retires thread touch store
 
-    full-q : has_room_in one.mode (Some touch) ≡ false → state_of (core_aborted Overflow t q) ups ≡ with_worker s t (aborted Overflow one)
+    pub full-q : has_room_in one.mode (Some touch) ≡ false → state_of (core_aborted Overflow t q) ups ≡ with_worker s t (aborted Overflow one)
     full-q e = aborted-meant q t v x k (moved-stands p t w x k at ups retires g) ups Overflow
         ∙ ap (λ (z : State). with_worker z t (aborted Overflow (joined_one v x k))) q-meant
         ∙ ap (λ (u : Worker). with_worker (moved_state s t one retires thread) t (aborted Overflow u)) v-is

@@ -76,7 +76,7 @@ module _ (g : Thread Frame → Thread Frame) (w : OwnParts) (tx : RtmTransaction
   watch-one In false (Locks address) e = refl
   watch-one In false (Unlocks address) e = refl
 
-turns-inside : (mode : runtime.Mode) (w : OwnParts) (tx : RtmTransaction (CallStack Frame)) (k : WatchParts) (retires : Bool) (t : ℕ) (turns : List ℕ) → true ≡ is_in mode
+pub turns-inside : (mode : runtime.Mode) (w : OwnParts) (tx : RtmTransaction (CallStack Frame)) (k : WatchParts) (retires : Bool) (t : ℕ) (turns : List ℕ) → true ≡ is_in mode
     → turns_after (joined_one (in_mode mode w) (Some tx) k).mode retires t turns ≡ turns
 turns-inside Out w tx k retires t turns e = cc
 turns-inside Plain w tx k retires t turns e = cc
