@@ -21,3 +21,4 @@ pub mod MeantCalls
 pub mod MeantRequests
 pub mod MeantWatches
 pub mod MeantJoins
+pub mod MeantCreations
