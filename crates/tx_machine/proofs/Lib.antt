@@ -22,3 +22,4 @@ pub mod MeantRequests
 pub mod MeantWatches
 pub mod MeantJoins
 pub mod MeantCreations
+pub mod MeantMemory

@@ -55,7 +55,7 @@ module _ (p : CoreParts) (t : ℕ) (w : OwnParts) (x : Option (RtmTransaction (C
 
 -- ---- one thread inside
 
-abbrev tx_of : OwnParts → RtmTransaction (CallStack Frame) → WatchParts → Transaction
+abbrev pub tx_of : OwnParts → RtmTransaction (CallStack Frame) → WatchParts → Transaction
 tx_of w tx k = record { kept = tx.kept; footprint = tx.footprint; pending = w.pending; struck = w.struck; watched = k.watched; held = k.held }
 
 -- it has watched the mutex, and not yet done the call
