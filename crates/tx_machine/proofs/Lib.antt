@@ -23,3 +23,4 @@ pub mod MeantWatches
 pub mod MeantJoins
 pub mod MeantCreations
 pub mod MeantMemory
+pub mod MeantExits
