@@ -24,3 +24,4 @@ pub mod MeantJoins
 pub mod MeantCreations
 pub mod MeantMemory
 pub mod MeantExits
+pub mod MeantTurns
