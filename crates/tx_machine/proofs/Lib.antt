@@ -18,3 +18,12 @@ pub mod MeantActions
 pub mod MeantMatches
 pub mod Turned
 pub mod Programs
+pub mod MeantTakes
+pub mod MeantCalls
+pub mod MeantRequests
+pub mod MeantWatches
+pub mod MeantJoins
+pub mod MeantCreations
+pub mod MeantMemory
+pub mod MeantExits
+pub mod MeantTurns

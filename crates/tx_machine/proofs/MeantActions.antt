@@ -46,40 +46,40 @@ use Rattle.tx_machine.proofs.MeantAlone.{fails-resolved, after-resolved, valid-t
 
 -- ---- a turn is told
 
-abbrev told_one : Bool → Bool → OwnParts → OwnParts
+abbrev pub told_one : Bool → Bool → OwnParts → OwnParts
 told_one true true w = once_pending w
 told_one true false w = w
 told_one false inside w = w
 
-abbrev told_turns : Bool → Bool → ℕ → List ℕ → List ℕ
+abbrev pub told_turns : Bool → Bool → ℕ → List ℕ → List ℕ
 told_turns true true t turns = turns
 told_turns true false t turns = turns ++ t ∷ []
 told_turns false inside t turns = turns
 
-abbrev told_by : Bool → Bool → ℕ → CoreParts → CoreParts
+abbrev pub told_by : Bool → Bool → ℕ → CoreParts → CoreParts
 told_by true inside t p = told_as inside t p
 told_by false inside t p = p
 
-told-by : (retires : Bool) (t : ℕ) (p : CoreParts) → core_told retires t p ≡ told_by retires (is_open p t) t p
+pub told-by : (retires : Bool) (t : ℕ) (p : CoreParts) → core_told retires t p ≡ told_by retires (is_open p t) t p
 told-by true t p = refl
 told-by false t p = refl
 
-told-rtm : (retires inside : Bool) (t : ℕ) (p : CoreParts) → (told_by retires inside t p).rtm ≡ p.rtm
+pub told-rtm : (retires inside : Bool) (t : ℕ) (p : CoreParts) → (told_by retires inside t p).rtm ≡ p.rtm
 told-rtm true true t p = refl
 told-rtm true false t p = refl
 told-rtm false inside t p = refl
 
-told-program : (retires inside : Bool) (t : ℕ) (p : CoreParts) → (told_by retires inside t p).program ≡ p.program
+pub told-program : (retires inside : Bool) (t : ℕ) (p : CoreParts) → (told_by retires inside t p).program ≡ p.program
 told-program true true t p = refl
 told-program true false t p = refl
 told-program false inside t p = refl
 
-told-thread : (retires inside : Bool) (w : OwnParts) → (told_one retires inside w).thread ≡ w.thread
+pub told-thread : (retires inside : Bool) (w : OwnParts) → (told_one retires inside w).thread ≡ w.thread
 told-thread true true w = refl
 told-thread true false w = refl
 told-thread false inside w = refl
 
-told-mode : (mode : runtime.Mode) (retires : Bool) (w : OwnParts) (x : Option (Transaction (CallStack Frame))) (k : WatchParts)
+pub told-mode : (mode : runtime.Mode) (retires : Bool) (w : OwnParts) (x : Option (Transaction (CallStack Frame))) (k : WatchParts)
     → joined_one (told_one retires (is_some x) (in_mode mode w)) x k
     ≡ record (joined_one (in_mode mode w) x k) { mode = mode_after retires None None (joined_one (in_mode mode w) x k).mode }
 told-mode Out true w None k = refl
@@ -93,7 +93,7 @@ told-mode In true w (Some tx) k = refl
 told-mode In false w None k = refl
 told-mode In false w (Some tx) k = refl
 
-told-turns : (mode : runtime.Mode) (retires : Bool) (w : OwnParts) (x : Option (Transaction (CallStack Frame))) (k : WatchParts) (t : ℕ) (turns : List ℕ) → is_some x ≡ is_in mode
+pub told-turns : (mode : runtime.Mode) (retires : Bool) (w : OwnParts) (x : Option (Transaction (CallStack Frame))) (k : WatchParts) (t : ℕ) (turns : List ℕ) → is_some x ≡ is_in mode
     → told_turns retires (is_some x) t turns ≡ turns_after (joined_one (in_mode mode w) x k).mode retires t turns
 told-turns Out true w None k t turns e = refl
 told-turns Out true w (Some tx) k t turns e = cc
@@ -106,7 +106,7 @@ told-turns In true w (Some tx) k t turns e = refl
 told-turns In false w None k t turns e = refl
 told-turns In false w (Some tx) k t turns e = refl
 
-room-mode : (mode : runtime.Mode) (w : OwnParts) (x : Option (Transaction (CallStack Frame))) (k : WatchParts) (touch : Touch) → is_some x ≡ is_in mode
+pub room-mode : (mode : runtime.Mode) (w : OwnParts) (x : Option (Transaction (CallStack Frame))) (k : WatchParts) (touch : Touch) → is_some x ≡ is_in mode
     → rtm.has_room_in touch x ≡ has_room_in (joined_one (in_mode mode w) x k).mode (Some touch)
 room-mode Out w None k touch e = refl
 room-mode Out w (Some tx) k touch e = cc
@@ -125,22 +125,22 @@ seen-mode In w None k mem e = refl
 seen-mode In w (Some tx) k mem e = refl
 
 module _ (p : CoreParts) (t : ℕ) (w : OwnParts) (k : WatchParts) (ups : List Upset) where
-  abbrev told_state : Bool → Option (Transaction (CallStack Frame)) → Worker → State
+  abbrev pub told_state : Bool → Option (Transaction (CallStack Frame)) → Worker → State
   told_state retires x v = record (with_worker (state_of p ups) t v) { turns = told_turns retires (is_some x) t p.turns }
 
-  told-base : (retires : Bool) (x : Option (Transaction (CallStack Frame))) → StandsAt p t w x k
+  pub told-base : (retires : Bool) (x : Option (Transaction (CallStack Frame))) → StandsAt p t w x k
       → state_of (told_by retires (is_some x) t p) ups ≡ told_state retires x (joined_one (told_one retires (is_some x) w) x k)
   told-base true None at = ap (λ (s : State). record s { turns = p.turns ++ t ∷ [] }) (sym (stays p t w None k at ups))
   told-base true (Some tx) at = own-meant p t w (Some tx) k at ups once_pending
   told-base false x at = sym (stays p t w x k at ups)
 
-  told-stands : (retires : Bool) (x : Option (Transaction (CallStack Frame))) → StandsAt p t w x k
+  pub told-stands : (retires : Bool) (x : Option (Transaction (CallStack Frame))) → StandsAt p t w x k
       → StandsAt (told_by retires (is_some x) t p) t (told_one retires (is_some x) w) x k
   told-stands true None at = record { made = at.made; open_there = at.open_there; watching = at.watching; tied = at.tied }
   told-stands true (Some tx) at = own-stands p t w (Some tx) k at ups once_pending refl
   told-stands false x at = at
 
-  told-tied : (retires : Bool) (x : Option (Transaction (CallStack Frame))) → StandsAt p t w x k → IsTied p → IsTied (told_by retires (is_some x) t p)
+  pub told-tied : (retires : Bool) (x : Option (Transaction (CallStack Frame))) → StandsAt p t w x k → IsTied p → IsTied (told_by retires (is_some x) t p)
   told-tied true None at tied = record { threads = tied.threads; watches = tied.watches; own = tied.own; tied = tied.tied }
   told-tied true (Some tx) at tied = own-tied p t w (Some tx) k at ups once_pending refl tied
   told-tied false x at tied = tied
@@ -149,38 +149,38 @@ module _ (p : CoreParts) (t : ℕ) (w : OwnParts) (k : WatchParts) (ups : List U
 
 module _ (p : CoreParts) (t : ℕ) (w : OwnParts) (x : Option (Transaction (CallStack Frame))) (k : WatchParts) (at : StandsAt p t w x k) (ups : List Upset)
     (retires : Bool) (g : Thread Frame → Thread Frame) where
-  abbrev told : CoreParts
+  abbrev pub told : CoreParts
   told = told_by retires (is_some x) t p
 
-  abbrev told_own : OwnParts
+  abbrev pub told_own : OwnParts
   told_own = told_one retires (is_some x) w
 
-  abbrev moved : CoreParts
+  abbrev pub moved : CoreParts
   moved = with_own t (with_thread g) told
 
-  abbrev moved_own : OwnParts
+  abbrev pub moved_own : OwnParts
   moved_own = with_thread g told_own
 
-  abbrev worker : Worker
+  abbrev pub worker : Worker
   worker = joined_one w x k
 
-  moved-stands : StandsAt moved t moved_own x k
+  pub moved-stands : StandsAt moved t moved_own x k
   moved-stands = own-stands told t told_own x k (told-stands p t w k ups retires x at) ups (with_thread g) refl
 
-  moved-tied : IsTied p → IsTied moved
+  pub moved-tied : IsTied p → IsTied moved
   moved-tied tied = thread-tied told t told_own x k (told-stands p t w k ups retires x at) ups g (told-tied p t w k ups retires x at tied)
 
-  told-worker : record (joined_one told_own x k) { thread = g told_own.thread } ≡ moved_on (state_of p ups) t worker retires (g w.thread)
+  pub told-worker : record (joined_one told_own x k) { thread = g told_own.thread } ≡ moved_on (state_of p ups) t worker retires (g w.thread)
   told-worker = ap (λ (v : Worker). record v { thread = g told_own.thread }) (told-mode w.words.mode retires w x k)
       ∙ ap (λ (th : Thread Frame). moved_on (state_of p ups) t worker retires (g th)) (told-thread retires (is_some x) w)
 
-  moved-worker : joined_one moved_own x k ≡ moved_on (state_of p ups) t worker retires (g w.thread)
+  pub moved-worker : joined_one moved_own x k ≡ moved_on (state_of p ups) t worker retires (g w.thread)
   moved-worker = thread_joined ∙ told-worker
     where
       thread_joined : joined_one moved_own x k ≡ record (joined_one told_own x k) { thread = g told_own.thread }
       thread_joined = thread-joined g told_own x k
 
-  moved-meant : state_of moved ups ≡ moved_state (state_of p ups) t worker retires (g w.thread)
+  pub moved-meant : state_of moved ups ≡ moved_state (state_of p ups) t worker retires (g w.thread)
   moved-meant =
       let v : Worker = moved_on (state_of p ups) t worker retires (g w.thread) in
       thread-meant told t told_own x k (told-stands p t w k ups retires x at) ups g
@@ -189,10 +189,10 @@ module _ (p : CoreParts) (t : ℕ) (w : OwnParts) (x : Option (Transaction (Call
       ∙ ap (λ (s : State). record s { turns = told_turns retires (is_some x) t p.turns }) (twice (state_of p ups) t (joined_one told_own x k) v)
       ∙ ap (λ (ts : List ℕ). record (with_worker (state_of p ups) t v) { turns = ts }) (told-turns w.words.mode retires w x k t p.turns at.tied)
 
-  moved-rtm : moved.rtm ≡ p.rtm
+  pub moved-rtm : moved.rtm ≡ p.rtm
   moved-rtm = told-rtm retires (is_some x) t p
 
-  moved-world : moved.world ≡ p.world
+  pub moved-world : moved.world ≡ p.world
   moved-world = told_world retires (is_some x)
     where
       told_world : (b c : Bool) → (told_by b c t p).world ≡ p.world
@@ -200,17 +200,17 @@ module _ (p : CoreParts) (t : ℕ) (w : OwnParts) (x : Option (Transaction (Call
       told_world true false = refl
       told_world false c = refl
 
-  moved-own-thread : moved_own.thread ≡ g w.thread
+  pub moved-own-thread : moved_own.thread ≡ g w.thread
   moved-own-thread = ap g (told-thread retires (is_some x) w)
 
 -- ---- and memory is touched
 
-abbrev takes : Entry → Bool
+abbrev pub takes : Entry → Bool
 takes Invalid = true
 takes Full = false
 takes Entered = true
 
-took-of : (entry : Entry) (n : ℕ) → took (got_of entry n) ≡ takes entry
+pub took-of : (entry : Entry) (n : ℕ) → took (got_of entry n) ≡ takes entry
 took-of Invalid n = refl
 took-of Full n = refl
 took-of Entered n = refl
@@ -263,15 +263,15 @@ module _ (t : ℕ) (q : CoreParts) where
   finished-some (Return n) touch e = cc
   finished-some (Fault cause) touch e = cc
 
-places-same : (x : Option (Transaction (CallStack Frame))) (mem : Memory) → (rtm.seen_in x mem).places ≡ mem.places
+pub places-same : (x : Option (Transaction (CallStack Frame))) (mem : Memory) → (rtm.seen_in x mem).places ≡ mem.places
 places-same None mem = refl
 places-same (Some tx) mem = refl
 
-no-touch-room : (m : Mode) → has_room_in m None ≡ true
+pub no-touch-room : (m : Mode) → has_room_in m None ≡ true
 no-touch-room (Free plain) = refl
 no-touch-room (Inside tx) = refl
 
-acted-none : (h : HardParts) (s : State) (t : ℕ) (w : Worker) (stack : CallStack Frame) (target : Option (Side × Loc)) (retires : Bool) (action : Action) (m : Mode)
+pub acted-none : (h : HardParts) (s : State) (t : ℕ) (w : Worker) (stack : CallStack Frame) (target : Option (Side × Loc)) (retires : Bool) (action : Action) (m : Mode)
     → acted_by h s t w stack target retires action m None ≡ settled h s t w stack.frame retires None (outcome_of (frames h) (seen s w.mode) t target stack action)
 acted-none h s t w stack target retires action (Free plain) = refl
 acted-none h s t w stack target retires action (Inside tx) = refl
@@ -290,7 +290,7 @@ module _ (p : CoreParts) (t : ℕ) (w : OwnParts) (x : Option (Transaction (Call
   abbrev one : Worker
   one = joined_one w x k
 
-  abbrev effect_with : Option Touch → Option Store → Effect Frame
+  abbrev pub effect_with : Option Touch → Option Store → Effect Frame
   effect_with touch store = record { thread = thread; world = p.world; born = None; touch = touch; store = store }
 
   q-meant : state_of q ups ≡ moved_state s t one retires thread
@@ -304,7 +304,7 @@ module _ (p : CoreParts) (t : ℕ) (w : OwnParts) (x : Option (Transaction (Call
       ∙ ap (λ (b : Bool). where_room b s t one (did s t one retires None (effect_with None None))) (sym (no-touch-room one.mode))
 
   module _ (touch : Touch) (store : Option Store) where
-    done-q : state_of (touched_as Entered touch store t q) ups ≡ did s t one retires None (effect_with (Some touch) store)
+    pub done-q : state_of (touched_as Entered touch store t q) ups ≡ did s t one retires None (effect_with (Some touch) store)
     done-q =
         let effect_of : Thread Frame → Effect Frame = λ th. record { thread = th; world = p.world; born = None; touch = Some touch; store = store } in
         touched-meant q t v x k (moved-stands p t w x k at ups retires g) ups touch store
@@ -314,7 +314,7 @@ module _ (p : CoreParts) (t : ℕ) (w : OwnParts) (x : Option (Transaction (Call
         ∙ ap (λ (u : Worker). did (moved_state s t one retires thread) t u false None (effect_of thread)) v-is
         ∙ did-after s t one retires thread touch store
 
-    full-q : has_room_in one.mode (Some touch) ≡ false → state_of (core_aborted Overflow t q) ups ≡ with_worker s t (aborted Overflow one)
+    pub full-q : has_room_in one.mode (Some touch) ≡ false → state_of (core_aborted Overflow t q) ups ≡ with_worker s t (aborted Overflow one)
     full-q e = aborted-meant q t v x k (moved-stands p t w x k at ups retires g) ups Overflow
         ∙ ap (λ (z : State). with_worker z t (aborted Overflow (joined_one v x k))) q-meant
         ∙ ap (λ (u : Worker). with_worker (moved_state s t one retires thread) t (aborted Overflow u)) v-is

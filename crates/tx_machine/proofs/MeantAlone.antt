@@ -172,7 +172,7 @@ moved_on s t w retires thread = record w { thread = thread; mode = mode_after re
 abbrev pub moved_state : State → ℕ → Worker → Bool → Thread Frame → State
 moved_state s t w retires thread = record (with_worker s t (moved_on s t w retires thread)) { turns = turns_after w.mode retires t s.turns }
 
-set-map : (f : Worker → Worker) (ws : List Worker) (t : ℕ) (v w : Worker) → slice_set (map f (slice_set ws t v)) t w ≡ slice_set (map f ws) t w
+pub set-map : (f : Worker → Worker) (ws : List Worker) (t : ℕ) (v w : Worker) → slice_set (map f (slice_set ws t v)) t w ≡ slice_set (map f ws) t w
 set-map f [] zero v w = refl
 set-map f [] (suc t) v w = refl
 set-map f (u ∷ ws) zero v w = refl
