@@ -16,6 +16,8 @@ pub mod MeantTouches
 pub mod MeantAlone
 pub mod MeantActions
 pub mod MeantMatches
+pub mod Turned
+pub mod Programs
 pub mod MeantTakes
 pub mod MeantCalls
 pub mod MeantRequests

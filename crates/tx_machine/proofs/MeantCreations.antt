@@ -4,6 +4,7 @@ use Rattle.std.specs.Prelude.{nat_lt}
 use Rattle.std.specs.Option.{is_some, option_map_or}
 use Rattle.std.proofs.lemmas.Bool.Decides.{nat_tests}
 use Rattle.std.proofs.lemmas.List.{length-append}
+use Rattle.std.proofs.lemmas.Option.{slice_get_within}
 use Rattle.ir_core.specs.declared.types.Loc.{Loc}
 use Rattle.ir_core.specs.declared.values.Side.{Side}
 use Rattle.ir_layout.specs.declared.spans.Span.{Span}
@@ -36,7 +37,8 @@ use Rattle.tx_machine.specs.Core.{CoreParts, own_with, with_own, core_aborted, c
 use Rattle.tx_machine.specs.Turned.{core_called, core_started, core_unstarted, numbered_as, core_numbered, created_as, core_created}
 use Rattle.tx_machine.specs.Meant.{state_of, AreTied, IsTied, StandsAt}
 use Rattle.tx_machine.proofs.Joined.{more-joined}
-use Rattle.tx_machine.proofs.Cuts.{take-more, take-all}
+use Rattle.tx_machine.proofs.Told.{take-front}
+use Rattle.tx_machine.proofs.Turned.{get-before}
 use Rattle.tx_machine.proofs.Meant.{IsThere, there-within, thread-is, worker-is}
 use Rattle.tx_machine.proofs.MeantAborts.{aborted-tied, trapped-meant, trapped-tied}
 use Rattle.tx_machine.proofs.MeantPasses.{with_thread}
@@ -48,10 +50,7 @@ use Rattle.tx_machine.proofs.MeantJoins.{count-is}
 -- ---- lists
 
 get-longer : {A : Type 0} (xs : List A) (t : ℕ) (x y : A) → slice_get xs t ≡ Some x → slice_get (xs ++ y ∷ []) t ≡ Some x
-get-longer [] zero x y e = cc
-get-longer [] (suc t) x y e = cc
-get-longer (z ∷ xs) zero x y e = e
-get-longer (z ∷ xs) (suc t) x y e = get-longer xs t x y e
+get-longer xs t x y e = get-before xs y t (slice_get_within xs t x e) ∙ e
 
 set-longer : {A : Type 0} (xs : List A) (t : ℕ) (x y z : A) → slice_get xs t ≡ Some x → slice_set (xs ++ y ∷ []) t z ≡ slice_set xs t z ++ y ∷ []
 set-longer [] zero x y z e = cc
@@ -64,13 +63,6 @@ own-longer f ws t w z e =
     ap (λ (o : Option OwnParts). option_map_or (λ (v : OwnParts). slice_set (ws ++ z ∷ []) t (f v)) o (ws ++ z ∷ [])) (get-longer ws t w z e)
     ∙ set-longer ws t w z (f w) e
     ∙ ap (λ (o : Option OwnParts). option_map_or (λ (v : OwnParts). slice_set ws t (f v)) o ws ++ z ∷ []) (sym e)
-
--- the last of a list is taken from it
-but-last : {A : Type 0} (xs : List A) (x : A) → take (length (xs ++ x ∷ []) - 1) (xs ++ x ∷ []) ≡ xs
-but-last xs x =
-    let long : length (xs ++ x ∷ []) ≡ length xs + 1 = length-append xs (x ∷ []) in
-    let less : length (xs ++ x ∷ []) - 1 ≡ length xs = omega (arith, long) in
-    ap (λ (n : ℕ). take n (xs ++ x ∷ [])) less ∙ take-more (length xs) xs (x ∷ []) (omega arith) ∙ take-all (length xs) xs (omega arith)
 
 longer-tied : (ws : List OwnParts) (xs : List (Option (Transaction (CallStack Frame)))) (th : Thread Frame) → AreTied ws xs → length ws < length xs → AreTied (ws ++ new_own th ∷ []) xs
 longer-tied [] [] th tied e = absurd (omega (arith, e))
@@ -108,7 +100,7 @@ abbrev with_more : OwnParts → CoreParts → CoreParts
 with_more z p = record p { own = p.own ++ z ∷ [] }
 
 unstarted : (z : OwnParts) (p : CoreParts) → core_unstarted (with_more z p) ≡ p
-unstarted z p = ap (λ (ws : List OwnParts). record p { own = ws }) (but-last p.own z)
+unstarted z p = ap (λ (ws : List OwnParts). record p { own = ws }) (take-front p.own z)
 
 module _ (p : CoreParts) (t : ℕ) (w : OwnParts) (x : Option (Transaction (CallStack Frame))) (k : WatchParts) (at : StandsAt p t w x k) (ups : List Upset)
     (th : Thread Frame) where

@@ -26,7 +26,7 @@ back-again (w ∷ ws) (suc t) = by_place (slice_get ws t) refl (back-again ws t)
         by_set (Some z) f is = ap (λ (o : Option OwnParts). option_map_or (λ z. slice_set (w ∷ slice_set ws t (once_pending v)) (suc t) (once_unpending z)) o (w ∷ slice_set ws t (once_pending v))) f
             ∙ ap (λ rest. w ∷ rest) (ap (λ (o : Option OwnParts). option_map_or (λ z. slice_set (slice_set ws t (once_pending v)) t (once_unpending z)) o (slice_set ws t (once_pending v))) (sym f) ∙ is)
 
-take-front : (xs : List ℕ) (x : ℕ) → take (length (xs ++ x ∷ []) - 1) (xs ++ x ∷ []) ≡ xs
+pub take-front : {A : Type 0} (xs : List A) (x : A) → take (length (xs ++ x ∷ []) - 1) (xs ++ x ∷ []) ≡ xs
 take-front [] x = refl
 take-front (y ∷ []) x = refl
 take-front (y ∷ z ∷ xs) x =

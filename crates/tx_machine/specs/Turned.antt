@@ -1,24 +1,27 @@
 -- Turns of threads, as the code does them: actions that take more than a thread, checks of memory, a thread's end, and one instruction.
-use Rattle.std.specs.Prelude.{ℕ, zero, suc, ◌-◌, ◌%◌, ◌^◌, nat_eq, nat_lt, ◌&&◌, Bool, true, false, List, [], ◌∷◌, ◌++◌, Option, Some, None, length, take, slice_get, slice_set}
+use Rattle.std.specs.Prelude.{ℕ, zero, suc, ◌-◌, ◌%◌, ◌^◌, nat_eq, nat_lt, ◌&&◌, Bool, true, false, List, [], ◌∷◌, ◌++◌, Option, Some, None, length, take, replicate, slice_get, slice_set}
 use Rattle.std.specs.Option.{option_map, option_map_or, is_none}
 use Rattle.ir_core.specs.declared.types.Loc.{Loc}
 use Rattle.ir_core.specs.declared.types.Ty.{Ty}
 use Rattle.ir_core.specs.declared.types.Width.{Width}
 use Rattle.ir_core.specs.declared.types.Width.TheVariants.{W64}
 use Rattle.ir_core.specs.declared.values.Side.{Side}
-use Rattle.ir_layout.specs.Memory.{is_valid, thread_limit}
+use Rattle.ir_layout.specs.Memory.{is_valid, thread_limit, layout_of}
 use Rattle.mem_image.specs.Accesses.{bytes}
+use Rattle.mem_image.specs.Opening.{opening}
+use Rattle.ir_core.specs.declared.instruction.Inst.{Inst}
 use Rattle.inst_meaning.specs.declared.actions.Action.{Action}
 use Rattle.inst_meaning.specs.declared.actions.Action.TheVariants.{Assign, Reserve, Read, Write, Update, Pass, Jump, Call, Ask, Create, Join, Exit, Return, Fault}
 use Rattle.inst_meaning.specs.declared.actions.Place.{Place}
 use Rattle.inst_meaning.specs.declared.actions.Request.{Request}
 use Rattle.inst_meaning.specs.Action.{place_at}
 use Rattle.inst_meaning.specs.Operands.{memory_width}
-use Rattle.inst_meaning.specs.World.{owner_of}
+use Rattle.inst_meaning.specs.World.{owner_of, opening_world}
 use Rattle.process.specs.declared.state.CallStack.{CallStack}
 use Rattle.process.specs.declared.state.Thread.{Thread}
 use Rattle.process.specs.declared.state.Thread.TheVariants.{Running, Exiting, Ended}
 use Rattle.process.specs.State.{new_thread}
+use Rattle.src_meaning.specs.State.{main_of}
 use Rattle.hard_ir.specs.declared.instruction.HVal.{HVal}
 use Rattle.hard_ir.specs.declared.instruction.HInst.{HInst}
 use Rattle.hard_ir.specs.declared.instruction.HInst.TheVariants.{Cut, Begin, End as EndTransaction, Tick, Chk, ChkMem, Mov, Do}
@@ -27,7 +30,7 @@ use Rattle.hard_frames.specs.declared.outcome.Stop.TheVariants.{End}
 use Rattle.hard_frames.specs.declared.state.Frame.{Frame}
 use Rattle.hard_frames.specs.Code.{inst_at}
 use Rattle.hard_frames.specs.Frames.{frames, action_on, destination_on, operand_word}
-use Rattle.elide.specs.Watches.{WatchParts, watch_of, can_lock, once_locked, can_unlock, once_unlocked}
+use Rattle.elide.specs.Watches.{WatchParts, nothing_watched, watch_of, can_lock, once_locked, can_unlock, once_unlocked}
 use Rattle.rtm_core.specs.declared.Got.{Got}
 use Rattle.rtm_core.specs.declared.Got.TheVariants as gots
 use Rattle.rtm_core.specs.Transactions.{entry_of, word_seen}
@@ -39,10 +42,13 @@ use Rattle.tx_machine.specs.Core.{CoreParts, with_own, is_open, core_aborted, co
 
 -- ---- calls that are done
 
--- a call of a thread is done, with this result, and its turn is told
+-- a call of a thread is done, with this result
+abbrev pub once_called : Option (Side × Loc) → ℕ → ℕ → CoreParts → CoreParts
+once_called target n t p = with_own t (λ w. record w { thread = called_thread p.program target n w.thread }) p
+
+-- and its turn is told
 abbrev pub core_called : Bool → Option (Side × Loc) → ℕ → ℕ → CoreParts → CoreParts
-core_called retires target n t p =
-    with_own t (λ w. record w { thread = called_thread p.program target n w.thread }) (core_told retires t p)
+core_called retires target n t p = once_called target n t (core_told retires t p)
 
 -- ---- threads that are made
 
@@ -76,14 +82,22 @@ core_created retires target address n argument t p =
 
 -- ---- threads that are waited for
 
-abbrev pub awaited : Option (Thread Frame) → Bool → Option (Side × Loc) → ℕ → CoreParts → CoreParts
-awaited None retires target t p = core_trapped t p
-awaited (Some (Running stack)) retires target t p = p
-awaited (Some (Exiting n)) retires target t p = p
-awaited (Some Ended) retires target t p = core_called retires target 0 t p
+abbrev pub has_ended : Thread Frame → Bool
+has_ended (Running stack) = false
+has_ended (Exiting n) = false
+has_ended Ended = true
+
+-- whether a thread has ended that was made
+abbrev pub ended_at : CoreParts → ℕ → Option Bool
+ended_at p other = option_map (λ (w : OwnParts). has_ended w.thread) (slice_get p.own other)
+
+abbrev pub awaited_as : Option Bool → Bool → Option (Side × Loc) → ℕ → CoreParts → CoreParts
+awaited_as None retires target t p = core_trapped t p
+awaited_as (Some false) retires target t p = p
+awaited_as (Some true) retires target t p = core_called retires target 0 t p
 
 abbrev pub core_awaited : Bool → Option (Side × Loc) → ℕ → ℕ → CoreParts → CoreParts
-core_awaited retires target other t p = awaited (option_map (λ (w : OwnParts). w.thread) (slice_get p.own other)) retires target t p
+core_awaited retires target other t p = awaited_as (ended_at p other) retires target t p
 
 -- ---- the program's end
 
@@ -204,26 +218,67 @@ core_acted retires target (Exit code) t p = core_left retires code t p
 core_acted retires target (Return n) t p = core_alone retires target (Return n) t p
 core_acted retires target (Fault cause) t p = core_alone retires target (Fault cause) t p
 
-abbrev pub core_stepped : HInst → Frame → ℕ → CoreParts → CoreParts
-core_stepped Cut frame t p = core_cut t p
-core_stepped Begin frame t p = core_begun t p
-core_stepped EndTransaction frame t p = core_ended t p
-core_stepped (Tick work) frame t p = with_own t (once_ticked work) p
-core_stepped (Chk when ty reg) frame t p = core_checked when ty reg t p
-core_stepped (ChkMem ty ptr val) frame t p = core_memory_checked ty ptr val t p
-core_stepped (Mov ty reg) frame t p = core_copied reg t p
-core_stepped (Do side inst retires) frame t p =
-    core_acted retires (destination_on side inst) (action_on p.program side frame inst) t p
+-- what an instruction asks for on a side, where the thread runs
+abbrev pub action_in : HardParts → Side → Inst → Thread Frame → Option Action
+action_in h side inst (Running stack) = Some (action_on h side stack.frame inst)
+action_in h side inst (Exiting n) = None
+action_in h side inst Ended = None
 
-abbrev pub core_fetched : Option HInst → Frame → ℕ → CoreParts → CoreParts
-core_fetched None frame t p = core_trapped t p
-core_fetched (Some inst) frame t p = core_stepped inst frame t p
+abbrev pub action_at : CoreParts → ℕ → Side → Inst → Option Action
+action_at p t side inst = option_map_or (λ (w : OwnParts). action_in p.program side inst w.thread) (slice_get p.own t) None
 
-abbrev pub turned_in : Thread Frame → ℕ → CoreParts → CoreParts
-turned_in (Running stack) t p = core_fetched (inst_at p.program stack.frame) stack.frame t p
-turned_in (Exiting n) t p = core_exited n t p
-turned_in Ended t p = p
+abbrev pub done_as : Option Action → Bool → Option (Side × Loc) → ℕ → CoreParts → CoreParts
+done_as None retires target t p = p
+done_as (Some action) retires target t p = core_acted retires target action t p
+
+abbrev pub core_done_by : Side → Inst → Bool → ℕ → CoreParts → CoreParts
+core_done_by side inst retires t p = done_as (action_at p t side inst) retires (destination_on side inst) t p
+
+abbrev pub core_stepped_at : HInst → ℕ → CoreParts → CoreParts
+core_stepped_at Cut t p = core_cut t p
+core_stepped_at Begin t p = core_begun t p
+core_stepped_at EndTransaction t p = core_ended t p
+core_stepped_at (Tick work) t p = with_own t (once_ticked work) p
+core_stepped_at (Chk when ty reg) t p = core_checked when ty reg t p
+core_stepped_at (ChkMem ty ptr val) t p = core_memory_checked ty ptr val t p
+core_stepped_at (Mov ty reg) t p = core_copied reg t p
+core_stepped_at (Do side inst retires) t p = core_done_by side inst retires t p
+
+-- the instruction at the place of a thread that runs
+abbrev pub inst_of : HardParts → Thread Frame → Option HInst
+inst_of h (Running stack) = inst_at h stack.frame
+inst_of h (Exiting n) = None
+inst_of h Ended = None
+
+abbrev pub inst_in : CoreParts → ℕ → Option HInst
+inst_in p t = option_map_or (λ (w : OwnParts). inst_of p.program w.thread) (slice_get p.own t) None
+
+abbrev pub run_as : Option HInst → ℕ → CoreParts → CoreParts
+run_as None t p = core_trapped t p
+run_as (Some inst) t p = core_stepped_at inst t p
+
+abbrev pub core_run : ℕ → CoreParts → CoreParts
+core_run t p = run_as (inst_in p t) t p
+
+abbrev pub turned_as : Thread Frame → ℕ → CoreParts → CoreParts
+turned_as (Running stack) t p = core_run t p
+turned_as (Exiting n) t p = core_exited n t p
+turned_as Ended t p = p
 
 -- a turn of the thread with a number: one that was never made does nothing
 abbrev pub core_turn : ℕ → CoreParts → CoreParts
-core_turn t p = option_map_or (λ (w : OwnParts). turned_in w.thread t p) (slice_get p.own t) p
+core_turn t p = option_map_or (λ (w : OwnParts). turned_as w.thread t p) (slice_get p.own t) p
+
+-- ---- the opening
+
+-- thread 0 stands at the entry of `main`, outside transactions
+abbrev pub core_opening : HardParts → List ℕ → CoreParts
+core_opening h arguments = record {
+  program = h;
+  rtm = record { memory = opening (layout_of h.heads) h.heads.globals; threads = replicate thread_limit None };
+  watches = replicate thread_limit nothing_watched;
+  own = new_own (new_thread (frames h) 0 (main_of h.heads) []) ∷ [];
+  world = opening_world arguments;
+  turns = [];
+  stop = None;
+}

@@ -5,8 +5,10 @@
 #![tactic(auto)]
 
 mod conflicts;
+mod creation;
 mod marks;
 mod parts;
 mod records;
 mod strikes;
+mod turns;
 mod workers;

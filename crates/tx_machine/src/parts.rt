@@ -10,15 +10,17 @@ ghost use Rattle.rtm_core.specs.Transactions.{entry_of, seen_by, word_seen};
 ghost use Rattle.tx_machine.specs.Resolved.{resolved_access};
 ghost use Rattle.tx_machine.specs.Own.{meant, once_passed, once_ticked};
 ghost use Rattle.hard_meaning.specs.Checks.{is_active};
+ghost use Rattle.tx_machine.specs.Turned.{core_opening};
 ghost use Rattle.tx_machine.specs.Core.{CanPassIn, BeginsOutside, with_own, is_open, place_in, core_aborted, core_failed, core_trapped, core_begun, core_closed, can_close, core_ended, core_cut, compared_at, core_checked, copied_at, once_copied_at, core_copied, core_touched, failure_simply, failure_at, core_moved, core_done, core_told, core_untold, core_accessed, took, room_for, core_alone, watcher_if, watches_other, core_taken, core_taking, reply_at, core_requested, core_asked};
 
 use crate::conflicts::undo_each;
 use crate::workers::{Status, Worker};
 use elide::Elision;
 use hard_frames::{Frame, Program, Stop, Words as Room, place_text};
-use hard_ir::When;
+use hard_ir::{Hardened, When};
 use inst_meaning::{Action, Cause, Place, Reply, Request, Update, World};
 use ir_core::{Loc, Name, Side, Tid, Ty};
+use ir_layout::THREAD_LIMIT;
 use process::{CallStack, Thread};
 use rtm_core::{Aborted, Got, Rtm};
 use std::alloc::{AllocError, Global};
@@ -38,16 +40,16 @@ fn took(got: Got) -> bool
 /// All that runs. Contracts see its parts.
 #[derive(Drop)]
 pub(crate) struct Core<'a> {
-    program: Program<'a>,
-    rtm: Rtm<CallStack<Frame>>,
-    elision: Elision,
-    workers: Vec<Worker>,
-    world: World,
-    turns: TurnLog,
-    stop: Option<Stop>,
-    aborted: Vec<Aborted<CallStack<Frame>>>,
-    room: Room,
-    alloc: Global,
+    pub(crate) program: Program<'a>,
+    pub(crate) rtm: Rtm<CallStack<Frame>>,
+    pub(crate) elision: Elision,
+    pub(crate) workers: Vec<Worker>,
+    pub(crate) world: World,
+    pub(crate) turns: TurnLog,
+    pub(crate) stop: Option<Stop>,
+    pub(crate) aborted: Vec<Aborted<CallStack<Frame>>>,
+    pub(crate) room: Room,
+    pub(crate) alloc: Global,
 }
 
 impl<'a> Model for Core<'a> {
@@ -78,8 +80,35 @@ impl<'a> Model for Core<'a> {
 }
 
 impl<'a> Core<'a> {
+    /// The opening of a hardened program with these arguments.
+    pub(crate) fn new(alloc: Global, h: &'a Hardened, args: &[u64]) -> Result<Core<'a>, AllocError>
+        ensures { IfOk result (λ core. core ≡ core_opening h.now args.now) }
+    {
+        let program = Program::new(alloc, h)?;
+        let image = program.image(alloc)?;
+        let rtm = Rtm::new(alloc, image)?;
+        let elision = Elision::new(alloc)?;
+        let world = World::new(alloc, args)?;
+        let main = Thread::start(alloc, &program, 0, program.main(), &[])?;
+        let mut workers = Vec::new(alloc);
+        workers.push(Worker::new(alloc, main))?;
+        let aborted = Vec::with_capacity(alloc, THREAD_LIMIT)?;
+        Ok(Core {
+            program,
+            rtm,
+            elision,
+            workers,
+            world,
+            turns: TurnLog::new(alloc),
+            stop: None,
+            aborted,
+            room: Room::new(alloc),
+            alloc,
+        })
+    }
+
     // The transaction of a thread is aborted, where it has one.
-    fn abort(&mut self, t: Tid, status: Status)
+    pub(crate) fn abort(&mut self, t: Tid, status: Status)
         requires { t.0 < length self.old.own }
         ensures parts { self.new ≡ core_aborted (meant status) t.0 self.old }
         ensures count { length self.new.own ≡ length self.old.own }
@@ -119,7 +148,7 @@ impl<'a> Core<'a> {
     }
 
     // What a thread does where it stands is undefined.
-    fn trap(&mut self, t: Tid) -> Result<(), AllocError>
+    pub(crate) fn trap(&mut self, t: Tid) -> Result<(), AllocError>
         requires { t.0 < length self.old.own }
         ensures ok { OnOk result (self.new ≡ core_trapped t.0 self.old) }
         ensures err { OnErr result (self.new ≡ self.old) }
@@ -134,7 +163,7 @@ impl<'a> Core<'a> {
     }
 
     // A thread passes its instruction.
-    fn pass(&mut self, t: Tid)
+    pub(crate) fn pass(&mut self, t: Tid)
         requires made { t.0 < length self.old.own }
         requires pass { CanPassIn self.old t.0 }
         ensures { self.new ≡ with_own t.0 once_passed self.old }
@@ -143,7 +172,7 @@ impl<'a> Core<'a> {
     }
 
     // A thread passes a `begin`.
-    fn begin(&mut self, t: Tid) -> Result<(), AllocError>
+    pub(crate) fn begin(&mut self, t: Tid) -> Result<(), AllocError>
         requires made { t.0 < length self.old.own }
         requires pass { CanPassIn self.old t.0 }
         requires outside { BeginsOutside self.old t.0 }
@@ -158,7 +187,7 @@ impl<'a> Core<'a> {
     }
 
     // The work of a thread is counted, and it passes its instruction.
-    fn tick(&mut self, t: Tid, work: u32)
+    pub(crate) fn tick(&mut self, t: Tid, work: u32)
         requires made { t.0 < length self.old.own }
         requires pass { CanPassIn self.old t.0 }
         ensures { self.new ≡ with_own t.0 (once_ticked work) self.old }
@@ -168,7 +197,7 @@ impl<'a> Core<'a> {
 
     // Ends the transaction of a thread, where it has one. The answer is `false` exactly where it is aborted, since it holds a mutex. For want of memory
     // nothing changes.
-    fn close(&mut self, t: Tid) -> Result<bool, AllocError>
+    pub(crate) fn close(&mut self, t: Tid) -> Result<bool, AllocError>
         requires { t.0 < length self.old.own }
         ensures can { IfOk result (λ can. can ≡ can_close self.old t.0) }
         ensures ok { OnOk result (self.new ≡ core_closed t.0 self.old) }
@@ -191,7 +220,7 @@ impl<'a> Core<'a> {
     }
 
     // Ends the transaction of a thread, which goes on to its next instruction unless it is aborted.
-    fn end(&mut self, t: Tid) -> Result<(), AllocError>
+    pub(crate) fn end(&mut self, t: Tid) -> Result<(), AllocError>
         requires made { t.0 < length self.old.own }
         requires pass { CanPassIn self.old t.0 }
         ensures ok { OnOk result (self.new ≡ core_ended t.0 self.old) }
@@ -204,7 +233,7 @@ impl<'a> Core<'a> {
     }
 
     // Does as `end` where enough work was counted; else the thread goes on.
-    fn cut(&mut self, t: Tid) -> Result<(), AllocError>
+    pub(crate) fn cut(&mut self, t: Tid) -> Result<(), AllocError>
         requires made { t.0 < length self.old.own }
         requires pass { CanPassIn self.old t.0 }
         ensures ok { OnOk result (self.new ≡ core_cut t.0 self.old) }
@@ -239,7 +268,7 @@ impl<'a> Core<'a> {
     }
 
     // A check of a register.
-    fn check(&mut self, t: Tid, when: When, ty: &Ty, reg: Loc) -> Result<(), AllocError>
+    pub(crate) fn check(&mut self, t: Tid, when: When, ty: &Ty, reg: Loc) -> Result<(), AllocError>
         requires made { t.0 < length self.old.own }
         requires pass { CanPassIn self.old t.0 }
         ensures ok { OnOk result (self.new ≡ core_checked when ty.now reg t.0 self.old) }
@@ -268,7 +297,7 @@ impl<'a> Core<'a> {
     }
 
     // The shadow of a register becomes its master.
-    fn copy(&mut self, t: Tid, reg: Loc) -> Result<(), AllocError>
+    pub(crate) fn copy(&mut self, t: Tid, reg: Loc) -> Result<(), AllocError>
         requires made { t.0 < length self.old.own }
         requires pass { CanPassIn self.old t.0 }
         ensures ok { OnOk result (self.new ≡ core_copied reg t.0 self.old) }
@@ -281,7 +310,7 @@ impl<'a> Core<'a> {
     }
 
     // A thread reads memory as it sees it, and aborts those in its way.
-    fn read(&mut self, t: Tid, place: Place) -> Got
+    pub(crate) fn read(&mut self, t: Tid, place: Place) -> Got
         requires { t.0 < length self.old.own }
         ensures got { result ≡ got_of (entry_of self.old.rtm t.0 (reading place.address (bytes place.size))) (word_seen self.old.rtm t.0 place.address (bytes place.size)) }
         ensures parts { self.new ≡ core_touched (reading place.address (bytes place.size)) None t.0 self.old }
@@ -296,7 +325,7 @@ impl<'a> Core<'a> {
     }
 
     // A thread writes a word to memory as it sees it, and aborts those in its way.
-    fn write(&mut self, t: Tid, place: Place, word: u64) -> Got
+    pub(crate) fn write(&mut self, t: Tid, place: Place, word: u64) -> Got
         requires made { t.0 < length self.old.own }
         requires fits { word < 2 ^ (8 * bytes place.size) }
         ensures got { result ≡ got_of (entry_of self.old.rtm t.0 (writing place.address (bytes place.size))) word }
@@ -363,7 +392,7 @@ impl<'a> Core<'a> {
     }
 
     // The word at a place as a thread sees it; `None` exactly where the place isn't valid.
-    fn peek(&self, t: Tid, place: Place) -> Option<u64>
+    pub(crate) fn peek(&self, t: Tid, place: Place) -> Option<u64>
         requires { t.0 < length self.now.own }
         ensures word { result ≡ read_of (seen_by self.now.rtm t.0) place.address (bytes place.size) }
         ensures below { IfSome result (λ word. word < 2 ^ (8 * bytes place.size)) }
@@ -410,7 +439,7 @@ impl<'a> Core<'a> {
     }
 
     // A turn of a thread is told, where it retires an instruction of the source. For want of memory nothing changes.
-    fn tell(&mut self, t: Tid, retires: bool) -> Result<(), AllocError>
+    pub(crate) fn tell(&mut self, t: Tid, retires: bool) -> Result<(), AllocError>
         requires { t.0 < length self.old.own }
         ensures ok { OnOk result (self.new ≡ core_told retires t.0 self.old) }
         ensures err { OnErr result (self.new ≡ self.old) }
@@ -426,7 +455,7 @@ impl<'a> Core<'a> {
     }
 
     // The turn that was told didn't come.
-    fn untell(&mut self, t: Tid, retires: bool)
+    pub(crate) fn untell(&mut self, t: Tid, retires: bool)
         requires { t.0 < length self.old.own }
         ensures { self.new ≡ core_untold retires t.0 self.old }
     {
@@ -484,7 +513,7 @@ impl<'a> Core<'a> {
     }
 
     // A thread does an action alone.
-    fn act_alone(
+    pub(crate) fn act_alone(
         &mut self,
         t: Tid,
         target: Option<(Side, Loc)>,
@@ -528,7 +557,7 @@ impl<'a> Core<'a> {
     }
 
     // A thread outside has taken a mutex: all others that watch it are aborted.
-    fn abort_watchers(&mut self, t: Tid, address: u64)
+    pub(crate) fn abort_watchers(&mut self, t: Tid, address: u64)
         ensures parts { self.new ≡ core_taken address t.0 self.old }
         ensures count { length self.new.own ≡ length self.old.own }
     {
@@ -570,7 +599,7 @@ impl<'a> Core<'a> {
     }
 
     // A thread asks the environment for something, outside or where no mutex is asked for.
-    fn ask(
+    pub(crate) fn ask(
         &mut self,
         t: Tid,
         target: Option<(Side, Loc)>,

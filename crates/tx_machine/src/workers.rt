@@ -1,18 +1,22 @@
 //! Threads, each with what an abort of it changes.
-ghost use Rattle.std.specs.Prelude.{◌≡◌, ◌+◌, ◌<◌, ◌^◌, None, IfOk, OnOk, OnErr, OnSome};
+ghost use Rattle.std.specs.Prelude.{◌≡◌, ◌+◌, ◌<◌, ◌^◌, None, IfOk, IfSome, OnOk, OnErr, OnSome};
 ghost use Rattle.std.specs.Option.{is_some};
 ghost use Rattle.inst_meaning.specs.Registers.{get};
 ghost use Rattle.process.specs.Outcome.{touch_of};
 ghost use Rattle.process.specs.code.Threads.{CanPass};
 ghost use Rattle.hard_meaning.specs.Checks.{same_word};
 ghost use Rattle.hard_meaning.specs.Aborts.{status_word};
+ghost use Rattle.process.specs.declared.state.Thread.TheVariants.{Ended};
+ghost use Rattle.inst_meaning.specs.Accesses.{IsFitting};
+ghost use Rattle.inst_meaning.specs.Operands.{memory_width};
+ghost use Rattle.tx_machine.specs.Turned.{has_ended, sought_as, sought_in, action_in};
 ghost use Rattle.tx_machine.specs.Own.{meant, new_own, once_passed, kept_thread, once_begun, once_ticked, once_ended, once_committed, once_pending, once_unpending, compared_words, compared_in, once_copied, copied_in, copied_thread, failure_in, moved_thread, reply_in, world_in, asked_thread, called_thread, once_undone};
 
 use crate::marks::Marks;
 use hard_frames::{Aborts, Frame, Program, Words as Room};
-use hard_ir::register_bits;
-use inst_meaning::{Action, Cause, Reply, Request, World};
-use ir_core::{Loc, Side, Tid, Ty};
+use hard_ir::{HVal, register_bits};
+use inst_meaning::{Action, Cause, Place, Reply, Request, World, memory_width, size_of_width};
+use ir_core::{Inst, Loc, Side, Tid, Ty, Width};
 use process::{CallStack, Code, Local, Thread};
 use std::alloc::{AllocError, Global};
 use std::marker::Model;
@@ -80,6 +84,33 @@ fn copy(frame: &mut Frame, reg: Loc) -> Result<(), AllocError>
         frame.index += 1;
     }
     Ok(())
+}
+
+// The place and the word that a check of memory compares in a frame, where it has both.
+fn sought(
+    alloc: Global,
+    program: &Program<'_>,
+    frame: &mut Frame,
+    ty: &Ty,
+    ptr: &HVal,
+    val: &HVal,
+) -> Result<Option<(Place, u64)>, AllocError>
+    ensures sought { IfOk result (λ found. found ≡ sought_as (memory_width ty.now) program.now frame.old ptr.now val.now) }
+    ensures unchanged { frame.new ≡ frame.old }
+{
+    let Some(width) = memory_width(ty) else {
+        return Ok(None);
+    };
+    let address = frame.operand(alloc, program, Width::W64, ptr)?;
+    let word = frame.operand(alloc, program, width, val)?;
+    let (Some(address), Some(word)) = (address, word) else {
+        return Ok(None);
+    };
+    let place = Place {
+        address,
+        size: size_of_width(width),
+    };
+    Ok(Some((place, word)))
 }
 
 /// A thread, the runtime's words of it, its aborts by cause, how many transactions it has begun, and the upsets in it that no abort can undo.
@@ -300,6 +331,16 @@ impl Worker {
         }
     }
 
+    /// Whether the thread has ended.
+    pub(crate) fn has_ended(&self) -> bool
+        ensures { result ≡ has_ended self.now.thread }
+    {
+        match &self.thread {
+            Thread::Ended => true,
+            Thread::Running(_) | Thread::Exiting(_) => false,
+        }
+    }
+
     /// Whether the master of a register has a word.
     pub(crate) fn has_word(&self, reg: Loc) -> bool
         ensures { result ≡ is_some (copied_in self.now.thread reg) }
@@ -321,6 +362,52 @@ impl Worker {
             Thread::Running(stack) => copy(&mut stack.frame, reg),
             Thread::Exiting(_) | Thread::Ended => Ok(()),
         }
+    }
+
+    /// The place and the word that a check of memory compares, where it has both.
+    pub(crate) fn sought(
+        &mut self,
+        alloc: Global,
+        program: &Program<'_>,
+        ty: &Ty,
+        ptr: &HVal,
+        val: &HVal,
+    ) -> Result<Option<(Place, u64)>, AllocError>
+        ensures sought { IfOk result (λ found. found ≡ sought_in program.now self.old.thread ty.now ptr.now val.now) }
+        ensures unchanged { self.new ≡ self.old }
+    {
+        match &mut self.thread {
+            Thread::Running(stack) => sought(alloc, program, &mut stack.frame, ty, ptr, val),
+            Thread::Exiting(_) | Thread::Ended => Ok(None),
+        }
+    }
+
+    /// What an instruction asks for on a side, where the thread runs.
+    pub(crate) fn action(
+        &mut self,
+        alloc: Global,
+        program: &Program<'_>,
+        side: Side,
+        inst: &Inst,
+    ) -> Result<Option<Action>, AllocError>
+        ensures action { IfOk result (λ found. found ≡ action_in program.now side inst.now self.old.thread) }
+        ensures fits { IfOk result (λ found. IfSome found IsFitting) }
+        ensures unchanged { self.new ≡ self.old }
+    {
+        match &mut self.thread {
+            Thread::Running(stack) => {
+                let action = stack.frame.action(alloc, program, side, inst)?;
+                Ok(Some(action))
+            }
+            Thread::Exiting(_) | Thread::Ended => Ok(None),
+        }
+    }
+
+    /// The thread ends.
+    pub(crate) fn leave(&mut self)
+        ensures { self.new ≡ record self.old { thread = Ended } }
+    {
+        self.thread = Thread::Ended;
     }
 
     /// Its transaction is aborted, and these frames run again. A thread that isn't inside is not aborted.
