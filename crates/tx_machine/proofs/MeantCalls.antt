@@ -1,5 +1,5 @@
 -- A call that is done, and a mutex that it takes, are those of the definitions.
-use Rattle.std.proofs.Common.{ℕ, ◌≡◌, ◌∙◌, Bool, true, false, List, map, Option, Some, None, slice_set, refl, ap, sym, subst}
+use Rattle.std.proofs.Common.{ℕ, ◌≡◌, ◌∙◌, Bool, List, map, Option, Some, None, slice_set, refl, ap, sym, subst}
 use Rattle.ir_core.specs.declared.types.Loc.{Loc}
 use Rattle.ir_core.specs.declared.values.Side.{Side}
 use Rattle.inst_meaning.specs.World.{WorldParts}
@@ -19,7 +19,7 @@ use Rattle.hard_meaning.specs.Effects.{memory_after, did, where_room}
 use Rattle.hard_meaning.specs.Turns.{settled}
 use Rattle.tx_machine.specs.Own.{OwnParts, called_thread}
 use Rattle.tx_machine.specs.Joined.{joined_one}
-use Rattle.tx_machine.specs.Core.{CoreParts, with_own, core_told, taken_as}
+use Rattle.tx_machine.specs.Core.{CoreParts, with_own, taken_as}
 use Rattle.tx_machine.specs.Turned.{core_called}
 use Rattle.tx_machine.specs.Meant.{state_of, IsTied, StandsAt}
 use Rattle.tx_machine.proofs.Meant.{open-is}

@@ -1,5 +1,5 @@
 -- A thread that makes another is that of the definitions.
-use Rattle.std.proofs.Common.{ℕ, zero, suc, ◌≡◌, ◌∙◌, ◌<◌, ◌≤◌, ◌-◌, ◌+◌, Bool, true, false, List, [], ◌∷◌, ◌++◌, map, take, length, Option, Some, None, slice_get, slice_set, refl, ap, sym, subst, arith}
+use Rattle.std.proofs.Common.{ℕ, zero, suc, ◌≡◌, ◌∙◌, ◌<◌, ◌+◌, Bool, true, false, List, [], ◌∷◌, ◌++◌, map, length, Option, Some, None, slice_get, slice_set, refl, ap, sym, subst, arith}
 use Rattle.std.specs.Prelude.{nat_lt}
 use Rattle.std.specs.Option.{is_some, option_map_or}
 use Rattle.std.proofs.lemmas.Bool.Decides.{nat_tests}
@@ -11,7 +11,6 @@ use Rattle.ir_layout.specs.declared.spans.Span.{Span}
 use Rattle.ir_layout.specs.Memory.{is_valid, thread_limit}
 use Rattle.mem_image.specs.Bytes.{Memory}
 use Rattle.mem_image.specs.Touches.{Touch, Store}
-use Rattle.inst_meaning.specs.World.{WorldParts}
 use Rattle.inst_meaning.specs.declared.actions.Action.TheVariants.{Create}
 use Rattle.process.specs.declared.state.CallStack.{CallStack}
 use Rattle.process.specs.declared.state.Thread.{Thread}
@@ -19,22 +18,21 @@ use Rattle.process.specs.declared.state.Thread.TheVariants.{Running}
 use Rattle.process.specs.State.{new_thread}
 use Rattle.process.specs.Outcome as outcomes
 use Rattle.process.specs.Outcome.{Effect, Goes}
-use Rattle.hard_ir.specs.Hardened.{HardParts}
 use Rattle.hard_frames.specs.declared.state.Frame.{Frame}
 use Rattle.hard_frames.specs.Frames.{frames}
 use Rattle.elide.specs.Watches.{WatchParts}
-use Rattle.rtm_core.specs.Calls.{writing, got_of}
+use Rattle.rtm_core.specs.Calls.{writing}
 use Rattle.rtm_core.specs.Transactions as rtm
 use Rattle.rtm_core.specs.Transactions.{Transaction, RtmParts, Entry, entry_if, entry_of}
 use Rattle.rtm_core.specs.Transactions.Entry.{Invalid, Full, Entered}
 use Rattle.hard_meaning.specs.State.{Mode, Free, Inside, Worker, State, Upset, seen, seen_in, new_worker}
-use Rattle.hard_meaning.specs.Aborts.{spared, aborted, Overflow}
-use Rattle.hard_meaning.specs.Effects.{with_worker, mode_after, did, has_room_in, where_room}
+use Rattle.hard_meaning.specs.Aborts.{spared, Overflow}
+use Rattle.hard_meaning.specs.Effects.{mode_after, did, has_room_in, where_room}
 use Rattle.hard_meaning.specs.Turns.{settled, acted}
 use Rattle.tx_machine.specs.Own.{OwnParts, new_own, once_pending}
-use Rattle.tx_machine.specs.Joined.{joined_one, joined, is_in}
-use Rattle.tx_machine.specs.Core.{CoreParts, own_with, with_own, core_aborted, core_touched, touched_as, took}
-use Rattle.tx_machine.specs.Turned.{core_called, core_started, core_unstarted, numbered_as, core_numbered, created_as, core_created}
+use Rattle.tx_machine.specs.Joined.{joined_one}
+use Rattle.tx_machine.specs.Core.{CoreParts, own_with, with_own, core_aborted, core_touched, touched_as}
+use Rattle.tx_machine.specs.Turned.{core_called, core_unstarted, numbered_as, core_numbered, created_as, core_created}
 use Rattle.tx_machine.specs.Meant.{state_of, AreTied, IsTied, StandsAt}
 use Rattle.tx_machine.proofs.Joined.{more-joined}
 use Rattle.tx_machine.proofs.Told.{take-front}
@@ -43,7 +41,7 @@ use Rattle.tx_machine.proofs.Meant.{IsThere, there-within, thread-is, worker-is}
 use Rattle.tx_machine.proofs.MeantAborts.{aborted-tied, trapped-meant, trapped-tied}
 use Rattle.tx_machine.proofs.MeantPasses.{with_thread}
 use Rattle.tx_machine.proofs.MeantTouches.{touched-tied}
-use Rattle.tx_machine.proofs.MeantActions.{told_by, told_one, told-stands, moved, moved_own, moved-stands, moved-tied, moved-rtm, takes, took-of, room-mode, acted-none, effect_with, done-q, full-q}
+use Rattle.tx_machine.proofs.MeantActions.{told_by, told_one, told-stands, moved, moved_own, moved-stands, moved-tied, moved-rtm, takes, took-of, room-mode, acted-none, done-q, full-q}
 use Rattle.tx_machine.proofs.MeantCalls.{call_in, called-is, called-meant, called-tied}
 use Rattle.tx_machine.proofs.MeantJoins.{count-is}
 

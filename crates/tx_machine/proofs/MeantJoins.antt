@@ -5,7 +5,6 @@ use Rattle.std.proofs.lemmas.List.{length-map}
 use Rattle.std.proofs.lemmas.Option.{slice_get-map}
 use Rattle.ir_core.specs.declared.types.Loc.{Loc}
 use Rattle.ir_core.specs.declared.values.Side.{Side}
-use Rattle.ir_layout.specs.Memory.{thread_limit}
 use Rattle.inst_meaning.specs.declared.actions.Action.TheVariants.{Join, Exit}
 use Rattle.process.specs.declared.state.CallStack.{CallStack}
 use Rattle.process.specs.declared.state.Thread.{Thread}
@@ -22,7 +21,7 @@ use Rattle.hard_meaning.specs.Effects.{turns_after}
 use Rattle.hard_meaning.specs.Turns.{settled, acted}
 use Rattle.tx_machine.specs.Own.{OwnParts}
 use Rattle.tx_machine.specs.Joined.{joined_one, joined}
-use Rattle.tx_machine.specs.Core.{CoreParts, core_told}
+use Rattle.tx_machine.specs.Core.{CoreParts}
 use Rattle.tx_machine.specs.Turned.{has_ended, ended_at, awaited_as, core_awaited, told_outside, core_left}
 use Rattle.tx_machine.specs.Meant.{state_of, IsTied, StandsAt}
 use Rattle.tx_machine.proofs.Meant.{open-is}

@@ -1,5 +1,5 @@
 -- Requests to the environment are those of the definitions.
-use Rattle.std.proofs.Common.{ℕ, ◌≡◌, ◌∙◌, Bool, true, false, List, Option, Some, None, refl, ap, sym, subst}
+use Rattle.std.proofs.Common.{ℕ, ◌≡◌, ◌∙◌, Bool, List, Option, refl, ap, sym, subst}
 use Rattle.std.specs.Option.{is_some, option_map_or}
 use Rattle.ir_core.specs.declared.types.Loc.{Loc}
 use Rattle.ir_core.specs.declared.values.Side.{Side}
@@ -30,7 +30,7 @@ use Rattle.tx_machine.specs.Meant.{state_of, IsTied, StandsAt}
 use Rattle.tx_machine.proofs.Meant.{open-is}
 use Rattle.tx_machine.proofs.MeantAborts.{trapped-meant, trapped-tied}
 use Rattle.tx_machine.proofs.MeantPasses.{with_thread}
-use Rattle.tx_machine.proofs.MeantActions.{told_by, told-by, told-program, told-thread, told-stands, told, told_own, moved, moved-world}
+use Rattle.tx_machine.proofs.MeantActions.{told_by, told-by, told-program, told-thread, told-stands, told, moved-world}
 use Rattle.tx_machine.proofs.MeantCalls.{calling, done-settled, moved_with, takes-meant, takes-tied}
 
 module _ (p : CoreParts) (t : ℕ) (w : OwnParts) (x : Option (Transaction (CallStack Frame))) (k : WatchParts) (at : StandsAt p t w x k) (ups : List Upset)

@@ -1,19 +1,19 @@
 -- A mutex that a thread takes: all others that watch it are aborted, as the definitions have it.
-use Rattle.std.proofs.Common.{ℕ, zero, suc, ◌≡◌, ◌∙◌, ◌<◌, ◌≤◌, ◌+◌, Bool, true, false, not, ◌&&◌, ◌||◌, List, [], ◌∷◌, map, length, Option, Some, None, slice_get, slice_set, nat_eq, refl, ap, sym, subst, arith}
-use Rattle.std.specs.Option.{is_some, option_map_or}
+use Rattle.std.proofs.Common.{ℕ, zero, suc, ◌≡◌, ◌∙◌, ◌<◌, ◌≤◌, ◌+◌, Bool, true, false, not, ◌&&◌, List, [], ◌∷◌, map, length, Option, Some, None, slice_get, slice_set, nat_eq, refl, ap, sym, subst, arith}
+use Rattle.std.specs.Option.{option_map_or}
 use Rattle.process.specs.declared.state.CallStack.{CallStack}
 use Rattle.hard_frames.specs.declared.state.Frame.{Frame}
 use Rattle.line_sets.specs.Sets.{has}
-use Rattle.elide.specs.Watches.{WatchParts, nothing_watched, watch_of}
+use Rattle.elide.specs.Watches.{WatchParts, nothing_watched}
 use Rattle.rtm_core.specs.Transactions.{Transaction, thread}
 use Rattle.tx_runtime.specs.declared.words.Mode as runtime
 use Rattle.tx_runtime.specs.declared.words.Mode.TheVariants.{Out, In, Plain}
 use Rattle.hard_meaning.specs.State.{Worker, State, Upset}
-use Rattle.hard_meaning.specs.Aborts.{Conflict, Claim, aborted, aborted_if, spared}
+use Rattle.hard_meaning.specs.Aborts.{Conflict, Claim, aborted_if, spared}
 use Rattle.hard_meaning.specs.Effects.{with_worker}
 use Rattle.tx_machine.specs.Own.{OwnParts, once_undone}
-use Rattle.tx_machine.specs.Joined.{joined_one, joined, is_in}
-use Rattle.tx_machine.specs.Core.{CoreParts, own_with, aborted_as, core_aborted, watcher_if, watches_other, watchers_aborted, core_taken}
+use Rattle.tx_machine.specs.Joined.{joined_one, joined}
+use Rattle.tx_machine.specs.Core.{CoreParts, aborted_as, watcher_if, watches_other, watchers_aborted, core_taken}
 use Rattle.tx_machine.specs.Meant.{state_of, IsTied, StandsAt}
 use Rattle.tx_machine.proofs.Undone.{spared_if, spared_but, stays-spared}
 use Rattle.tx_machine.proofs.Meant.{length-set, IsFound, found, IsThere, there-within, worker-is, stays}

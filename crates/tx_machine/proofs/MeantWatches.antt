@@ -24,7 +24,7 @@ use Rattle.hard_meaning.specs.Locks.{MutexCall, Locks, Unlocks, mutex_request, t
 use Rattle.hard_meaning.specs.Turns.{settled, watched_if, acted_by, acted}
 use Rattle.tx_machine.specs.Own.{OwnParts}
 use Rattle.tx_machine.specs.Joined.{joined_one, joined, is_in}
-use Rattle.tx_machine.specs.Core.{CoreParts, core_closed, core_asked}
+use Rattle.tx_machine.specs.Core.{CoreParts}
 use Rattle.tx_machine.specs.Turned.{core_called, can_watch_in, once_watching, watching_at, watched_as, core_watched, requested_as, core_request}
 use Rattle.tx_machine.specs.Meant.{state_of, IsTied, StandsAt}
 use Rattle.tx_machine.proofs.Joined.{set-joined, set-same}
@@ -32,7 +32,7 @@ use Rattle.tx_machine.proofs.Meant.{length-set, open-is}
 use Rattle.tx_machine.proofs.MeantAborts.{in_mode}
 use Rattle.tx_machine.proofs.MeantPasses.{with_thread}
 use Rattle.tx_machine.proofs.MeantEnds.{index-there, twice, closed-meant, closed-tied}
-use Rattle.tx_machine.proofs.MeantAlone.{moved_on, moved_state, alone-after}
+use Rattle.tx_machine.proofs.MeantAlone.{moved_on, alone-after}
 use Rattle.tx_machine.proofs.MeantActions.{told_by, told_one, moved, moved_own, moved-stands, moved-tied, acted-none}
 use Rattle.tx_machine.proofs.MeantCalls.{call_in, called-is, called-moved}
 use Rattle.tx_machine.proofs.MeantRequests.{asked-meant, asked-tied}
