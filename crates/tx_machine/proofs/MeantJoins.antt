@@ -71,7 +71,8 @@ module _ (p : CoreParts) (t : ℕ) (w : OwnParts) (k : WatchParts) (ups : List U
   outside-told (Some tx) at = ap turns_as (sym (turns-inside w.words.mode w tx k retires t p.turns at.tied))
 
   outside-tied : (x : Option (Transaction (CallStack Frame))) → StandsAt p t w x k → IsTied p → IsTied (told_outside (is_some x) retires t p)
-  outside-tied None at tied = subst IsTied (sym (told-by retires t p ∙ ap (λ (b : Bool). told_by retires b t p) (open-is p t w None k at ups))) (free-tied retires tied)
+  outside-tied None at tied =
+      subst IsTied (sym (told-by retires t p ∙ ap (λ (b : Bool). told_by retires b t p) (open-is p t w None k at ups))) (free-tied retires tied)
   outside-tied (Some tx) at tied = tied
 
 -- ---- both actions
@@ -113,7 +114,8 @@ module _ (p : CoreParts) (t : ℕ) (w : OwnParts) (x : Option (Transaction (Call
     awaited-by None = trapped-meant p t w x k at ups stack runs
     awaited-by (Some other) = ended-by other.thread
 
-    pub awaited-meant : (other : ℕ) → IsTied p → state_of (core_awaited retires target other t p) ups ≡ acted p.program s t one stack target retires (Join other)
+    pub awaited-meant : (other : ℕ) → IsTied p → state_of (core_awaited retires target other t p) ups
+        ≡ acted p.program s t one stack target retires (Join other)
     awaited-meant other tied = awaited-by (slice_get p.own other)
         ∙ ap settled_as (sym (thread-at p ups one.mode tied other))
         ∙ sym (acted-none p.program s t one stack target retires (Join other) one.mode)

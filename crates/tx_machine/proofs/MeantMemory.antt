@@ -84,7 +84,8 @@ free-checked h s t Plain w k stack ty ptr val = refl
 
 -- ---- a word is read inside
 
-module _ (p : CoreParts) (t : ℕ) (w : OwnParts) (x : Option (rtm.Transaction (CallStack Frame))) (k : WatchParts) (at : StandsAt p t w x k) (ups : List Upset) where
+module _ (p : CoreParts) (t : ℕ) (w : OwnParts) (x : Option (rtm.Transaction (CallStack Frame))) (k : WatchParts) (at : StandsAt p t w x k)
+    (ups : List Upset) where
   -- the thread has passed
   abbrev q : CoreParts
   q = moved p t w x k at ups false passed_thread
@@ -184,7 +185,8 @@ module _ (p : CoreParts) (t : ℕ) (w : OwnParts) (tx : rtm.Transaction (CallSta
     back-as true = refl
     back-as false = refl
 
-    found-by : (valid room : Bool) → state_of (found_as (got_of (entry_if valid room) seen_word) word t (touched_as (entry_if valid room) touch None t r)) ups ≡ back_as valid room
+    found-by : (valid room : Bool) → state_of (found_as (got_of (entry_if valid room) seen_word) word t (touched_as (entry_if valid room) touch None t r)) ups
+        ≡ back_as valid room
     found-by false room = trapped-r
     found-by true false = aborted-r Overflow
     found-by true true = met-by (nat_eq seen_word word)

@@ -108,7 +108,8 @@ module _ (p : CoreParts) (u : ℕ) (w : OwnParts) (x : Option (Transaction (Call
   watcher-meant : (t address : ℕ) → state_of (watcher_if (watches_other p t address u) u p) ups
       ≡ with_worker (state_of p ups) u (spared_if (nat_eq u t) (taking address) (joined_one w x k))
   watcher-meant t address = watcher-by (watches_other p t address u)
-      ∙ ap (λ (j : WatchParts). with_worker (state_of p ups) u (aborted_if (not (nat_eq u t) && has j.watched address) (joined_one w x k))) (index-there p.watches u k nothing_watched at.watching)
+      ∙ ap (λ (j : WatchParts). with_worker (state_of p ups) u (aborted_if (not (nat_eq u t) && has j.watched address) (joined_one w x k)))
+      (index-there p.watches u k nothing_watched at.watching)
       ∙ ap (λ (v : Worker). with_worker (state_of p ups) u v) (taken-in w.words.mode (nat_eq u t) address w x k)
 
 -- ---- all of them
@@ -132,7 +133,8 @@ module _ (p : CoreParts) (t address : ℕ) (ups : List Upset) where
       record {
         meant = watcher-meant q n one.one f.tx f.watch f.stands ups t address
             ∙ ap (λ (s : State). with_worker s n (spared_if (nat_eq n t) (taking address) v)) so.meant
-            ∙ ap (λ (m : ℕ). with_worker (record (state_of p ups) { workers = spared_first t (taking address) n 0 (state_of p ups).workers }) n (spared_if (nat_eq m t) (taking address) v)) (none_more n)
+            ∙ ap (λ (m : ℕ). with_worker (record (state_of p ups) { workers = spared_first t (taking address) n 0 (state_of p ups).workers }) n
+            (spared_if (nat_eq m t) (taking address) v)) (none_more n)
             ∙ ap (λ (ws : List Worker). record (state_of p ups) { workers = ws }) (one-more t (taking address) n 0 (state_of p ups).workers v there);
         tied = watcher-tied q n one.one f.tx f.watch f.stands ups (watches_other q t address n) so.tied;
         count = watcher-count (watches_other q t address n) n q ∙ so.count;
@@ -148,10 +150,12 @@ module _ (p : CoreParts) (t address : ℕ) (ups : List Upset) where
   pub taken-tied : IsTied p → IsTied (core_taken address t p)
   taken-tied tied = (all-taken (length p.own) (omega arith) tied).tied
 
-  pub taken-meant : (w : OwnParts) (x : Option (Transaction (CallStack Frame))) (k : WatchParts) → StandsAt p t w x k → IsTied p → state_of (core_taken address t p) ups
+  pub taken-meant : (w : OwnParts) (x : Option (Transaction (CallStack Frame))) (k : WatchParts) → StandsAt p t w x k → IsTied p
+      → state_of (core_taken address t p) ups
       ≡ record (state_of p ups) { workers = slice_set (map (spared (taking address)) (state_of p ups).workers) t (joined_one w x k) }
   taken-meant w x k at tied =
       let ws : List Worker = (state_of p ups).workers in
       (all-taken (length p.own) (omega arith) tied).meant
-      ∙ ap (λ (vs : List Worker). record (state_of p ups) { workers = vs }) (all-first t (taking address) (length p.own) 0 ws (few-joined p.own p.rtm.threads p.watches))
+      ∙ ap (λ (vs : List Worker). record (state_of p ups) { workers = vs })
+      (all-first t (taking address) (length p.own) 0 ws (few-joined p.own p.rtm.threads p.watches))
       ∙ ap (λ (vs : List Worker). record (state_of p ups) { workers = vs }) (stays-spared t (taking address) ws (joined_one w x k) (worker-is p t w x k at ups))

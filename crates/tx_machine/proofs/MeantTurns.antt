@@ -183,7 +183,8 @@ module _ (p : CoreParts) (t : ℕ) (ups : List Upset) (tied : IsTied p) where
 
 module _ (p : CoreParts) (t : ℕ) (ups : List Upset) (tied : IsTied p) where
   -- a thread that wasn't made has no transaction
-  never-open : (ws : List OwnParts) (xs : List (Option (Transaction (CallStack Frame)))) (t : ℕ) → slice_get ws t ≡ None → AreTied ws xs → is_some (option_flatten (slice_get xs t)) ≡ false
+  never-open : (ws : List OwnParts) (xs : List (Option (Transaction (CallStack Frame)))) (t : ℕ) → slice_get ws t ≡ None → AreTied ws xs
+      → is_some (option_flatten (slice_get xs t)) ≡ false
   never-open [] [] zero e so = refl
   never-open [] [] (suc t) e so = refl
   never-open [] (x ∷ xs) zero e so = so.0
@@ -200,7 +201,8 @@ module _ (p : CoreParts) (t : ℕ) (ups : List Upset) (tied : IsTied p) where
   nobody None e = refl
   nobody (Some tx) e = cc
 
-  abort-by : (o : Option OwnParts) → slice_get p.own t ≡ o → state_of (core_aborted Other t p) ups ≡ abort_in (state_of p ups) t (slice_get (state_of p ups).workers t)
+  abort-by : (o : Option OwnParts) → slice_get p.own t ≡ o → state_of (core_aborted Other t p) ups
+      ≡ abort_in (state_of p ups) t (slice_get (state_of p ups).workers t)
   abort-by None e = ap (λ (q : CoreParts). state_of q ups) (nobody (thread p.rtm t) (never-open p.own p.rtm.threads t e tied.tied))
       ∙ ap (λ (o : Option Worker). abort_in (state_of p ups) t o) (sym (none-joined p.own p.rtm.threads p.watches t e))
   abort-by (Some w) e =
