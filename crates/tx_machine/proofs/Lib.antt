@@ -27,3 +27,4 @@ pub mod MeantCreations
 pub mod MeantMemory
 pub mod MeantExits
 pub mod MeantTurns
+pub mod MeantOpening

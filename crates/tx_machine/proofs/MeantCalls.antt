@@ -1,5 +1,5 @@
 -- A call that is done, and a mutex that it takes, are those of the definitions.
-use Rattle.std.proofs.Common.{ℕ, ◌≡◌, ◌∙◌, Bool, true, false, List, map, Option, Some, None, slice_set, refl, ap, sym, subst}
+use Rattle.std.proofs.Common.{ℕ, ◌≡◌, ◌∙◌, Bool, List, map, Option, Some, None, slice_set, refl, ap, sym, subst}
 use Rattle.ir_core.specs.declared.types.Loc.{Loc}
 use Rattle.ir_core.specs.declared.values.Side.{Side}
 use Rattle.inst_meaning.specs.World.{WorldParts}
@@ -19,7 +19,7 @@ use Rattle.hard_meaning.specs.Effects.{memory_after, did, where_room}
 use Rattle.hard_meaning.specs.Turns.{settled}
 use Rattle.tx_machine.specs.Own.{OwnParts, called_thread}
 use Rattle.tx_machine.specs.Joined.{joined_one}
-use Rattle.tx_machine.specs.Core.{CoreParts, with_own, core_told, taken_as}
+use Rattle.tx_machine.specs.Core.{CoreParts, with_own, taken_as}
 use Rattle.tx_machine.specs.Turned.{core_called}
 use Rattle.tx_machine.specs.Meant.{state_of, IsTied, StandsAt}
 use Rattle.tx_machine.proofs.Meant.{open-is}
@@ -49,7 +49,8 @@ taken-after s t w retires thread world address =
     ∙ ap (λ (m : Memory). record (did s t w retires (Some address) (calling thread world)) { memory = m }) (memory-same w.mode s.memory)
 
 -- a list has room for nothing
-pub done-settled : (h : HardParts) (s : State) (t : ℕ) (w : Worker) (frame : Frame) (retires : Bool) (mutex : Option ℕ) (thread : Thread Frame) (world : WorldParts)
+pub done-settled : (h : HardParts) (s : State) (t : ℕ) (w : Worker) (frame : Frame) (retires : Bool) (mutex : Option ℕ) (thread : Thread Frame)
+    (world : WorldParts)
     → did s t w retires mutex (calling thread world) ≡ settled h s t w frame retires mutex (Goes (calling thread world))
 done-settled h s t w frame retires mutex thread world =
     ap (λ (b : Bool). where_room b s t w (did s t w retires mutex (calling thread world))) (sym (no-touch-room w.mode))
@@ -99,7 +100,8 @@ module _ (p : CoreParts) (t : ℕ) (w : OwnParts) (x : Option (Transaction (Call
   call_in th = called_thread p.program target n th
 
   pub called-is : core_called retires target n t p ≡ moved p t w x k at ups retires call_in
-  called-is = ap (λ (r : CoreParts). with_own t (with_thread call_in) r) (told-by retires t p ∙ ap (λ (b : Bool). told_by retires b t p) (open-is p t w x k at ups))
+  called-is = ap (λ (r : CoreParts). with_own t (with_thread call_in) r)
+      (told-by retires t p ∙ ap (λ (b : Bool). told_by retires b t p) (open-is p t w x k at ups))
 
   pub called-tied : IsTied p → IsTied (core_called retires target n t p)
   called-tied tied = subst IsTied (sym called-is) (moved-tied p t w x k at ups retires call_in tied)

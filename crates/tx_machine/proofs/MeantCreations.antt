@@ -1,16 +1,16 @@
 -- A thread that makes another is that of the definitions.
-use Rattle.std.proofs.Common.{ℕ, zero, suc, ◌≡◌, ◌∙◌, ◌<◌, ◌≤◌, ◌-◌, ◌+◌, Bool, true, false, List, [], ◌∷◌, ◌++◌, map, take, length, Option, Some, None, slice_get, slice_set, refl, ap, sym, subst, arith}
+use Rattle.std.proofs.Common.{ℕ, zero, suc, ◌≡◌, ◌∙◌, ◌<◌, ◌+◌, Bool, true, false, List, [], ◌∷◌, ◌++◌, map, length, Option, Some, None, slice_get, slice_set, refl, ap, sym, subst, arith}
 use Rattle.std.specs.Prelude.{nat_lt}
 use Rattle.std.specs.Option.{is_some, option_map_or}
 use Rattle.std.proofs.lemmas.Bool.Decides.{nat_tests}
 use Rattle.std.proofs.lemmas.List.{length-append}
+use Rattle.std.proofs.lemmas.Option.{slice_get_within}
 use Rattle.ir_core.specs.declared.types.Loc.{Loc}
 use Rattle.ir_core.specs.declared.values.Side.{Side}
 use Rattle.ir_layout.specs.declared.spans.Span.{Span}
 use Rattle.ir_layout.specs.Memory.{is_valid, thread_limit}
 use Rattle.mem_image.specs.Bytes.{Memory}
 use Rattle.mem_image.specs.Touches.{Touch, Store}
-use Rattle.inst_meaning.specs.World.{WorldParts}
 use Rattle.inst_meaning.specs.declared.actions.Action.TheVariants.{Create}
 use Rattle.process.specs.declared.state.CallStack.{CallStack}
 use Rattle.process.specs.declared.state.Thread.{Thread}
@@ -18,40 +18,37 @@ use Rattle.process.specs.declared.state.Thread.TheVariants.{Running}
 use Rattle.process.specs.State.{new_thread}
 use Rattle.process.specs.Outcome as outcomes
 use Rattle.process.specs.Outcome.{Effect, Goes}
-use Rattle.hard_ir.specs.Hardened.{HardParts}
 use Rattle.hard_frames.specs.declared.state.Frame.{Frame}
 use Rattle.hard_frames.specs.Frames.{frames}
 use Rattle.elide.specs.Watches.{WatchParts}
-use Rattle.rtm_core.specs.Calls.{writing, got_of}
+use Rattle.rtm_core.specs.Calls.{writing}
 use Rattle.rtm_core.specs.Transactions as rtm
 use Rattle.rtm_core.specs.Transactions.{Transaction, RtmParts, Entry, entry_if, entry_of}
 use Rattle.rtm_core.specs.Transactions.Entry.{Invalid, Full, Entered}
 use Rattle.hard_meaning.specs.State.{Mode, Free, Inside, Worker, State, Upset, seen, seen_in, new_worker}
-use Rattle.hard_meaning.specs.Aborts.{spared, aborted, Overflow}
-use Rattle.hard_meaning.specs.Effects.{with_worker, mode_after, did, has_room_in, where_room}
+use Rattle.hard_meaning.specs.Aborts.{spared, Overflow}
+use Rattle.hard_meaning.specs.Effects.{mode_after, did, has_room_in, where_room}
 use Rattle.hard_meaning.specs.Turns.{settled, acted}
 use Rattle.tx_machine.specs.Own.{OwnParts, new_own, once_pending}
-use Rattle.tx_machine.specs.Joined.{joined_one, joined, is_in}
-use Rattle.tx_machine.specs.Core.{CoreParts, own_with, with_own, core_aborted, core_touched, touched_as, took}
-use Rattle.tx_machine.specs.Turned.{core_called, core_started, core_unstarted, numbered_as, core_numbered, created_as, core_created}
+use Rattle.tx_machine.specs.Joined.{joined_one}
+use Rattle.tx_machine.specs.Core.{CoreParts, own_with, with_own, core_aborted, core_touched, touched_as}
+use Rattle.tx_machine.specs.Turned.{core_called, core_unstarted, numbered_as, core_numbered, created_as, core_created}
 use Rattle.tx_machine.specs.Meant.{state_of, AreTied, IsTied, StandsAt}
 use Rattle.tx_machine.proofs.Joined.{more-joined}
-use Rattle.tx_machine.proofs.Cuts.{take-more, take-all}
+use Rattle.tx_machine.proofs.Told.{take-front}
+use Rattle.tx_machine.proofs.Turned.{get-before}
 use Rattle.tx_machine.proofs.Meant.{IsThere, there-within, thread-is, worker-is}
 use Rattle.tx_machine.proofs.MeantAborts.{aborted-tied, trapped-meant, trapped-tied}
 use Rattle.tx_machine.proofs.MeantPasses.{with_thread}
 use Rattle.tx_machine.proofs.MeantTouches.{touched-tied}
-use Rattle.tx_machine.proofs.MeantActions.{told_by, told_one, told-stands, moved, moved_own, moved-stands, moved-tied, moved-rtm, takes, took-of, room-mode, acted-none, effect_with, done-q, full-q}
+use Rattle.tx_machine.proofs.MeantActions.{told_by, told_one, told-stands, moved, moved_own, moved-stands, moved-tied, moved-rtm, takes, took-of, room-mode, acted-none, done-q, full-q}
 use Rattle.tx_machine.proofs.MeantCalls.{call_in, called-is, called-meant, called-tied}
 use Rattle.tx_machine.proofs.MeantJoins.{count-is}
 
 -- ---- lists
 
 get-longer : {A : Type 0} (xs : List A) (t : ℕ) (x y : A) → slice_get xs t ≡ Some x → slice_get (xs ++ y ∷ []) t ≡ Some x
-get-longer [] zero x y e = cc
-get-longer [] (suc t) x y e = cc
-get-longer (z ∷ xs) zero x y e = e
-get-longer (z ∷ xs) (suc t) x y e = get-longer xs t x y e
+get-longer xs t x y e = get-before xs y t (slice_get_within xs t x e) ∙ e
 
 set-longer : {A : Type 0} (xs : List A) (t : ℕ) (x y z : A) → slice_get xs t ≡ Some x → slice_set (xs ++ y ∷ []) t z ≡ slice_set xs t z ++ y ∷ []
 set-longer [] zero x y z e = cc
@@ -59,20 +56,15 @@ set-longer [] (suc t) x y z e = cc
 set-longer (v ∷ xs) zero x y z e = refl
 set-longer (v ∷ xs) (suc t) x y z e = ap (λ rest. v ∷ rest) (set-longer xs t x y z e)
 
-own-longer : (f : OwnParts → OwnParts) (ws : List OwnParts) (t : ℕ) (w z : OwnParts) → slice_get ws t ≡ Some w → own_with t f (ws ++ z ∷ []) ≡ own_with t f ws ++ z ∷ []
+own-longer : (f : OwnParts → OwnParts) (ws : List OwnParts) (t : ℕ) (w z : OwnParts) → slice_get ws t ≡ Some w → own_with t f (ws ++ z ∷ [])
+    ≡ own_with t f ws ++ z ∷ []
 own-longer f ws t w z e =
     ap (λ (o : Option OwnParts). option_map_or (λ (v : OwnParts). slice_set (ws ++ z ∷ []) t (f v)) o (ws ++ z ∷ [])) (get-longer ws t w z e)
     ∙ set-longer ws t w z (f w) e
     ∙ ap (λ (o : Option OwnParts). option_map_or (λ (v : OwnParts). slice_set ws t (f v)) o ws ++ z ∷ []) (sym e)
 
--- the last of a list is taken from it
-but-last : {A : Type 0} (xs : List A) (x : A) → take (length (xs ++ x ∷ []) - 1) (xs ++ x ∷ []) ≡ xs
-but-last xs x =
-    let long : length (xs ++ x ∷ []) ≡ length xs + 1 = length-append xs (x ∷ []) in
-    let less : length (xs ++ x ∷ []) - 1 ≡ length xs = omega (arith, long) in
-    ap (λ (n : ℕ). take n (xs ++ x ∷ [])) less ∙ take-more (length xs) xs (x ∷ []) (omega arith) ∙ take-all (length xs) xs (omega arith)
-
-longer-tied : (ws : List OwnParts) (xs : List (Option (Transaction (CallStack Frame)))) (th : Thread Frame) → AreTied ws xs → length ws < length xs → AreTied (ws ++ new_own th ∷ []) xs
+longer-tied : (ws : List OwnParts) (xs : List (Option (Transaction (CallStack Frame)))) (th : Thread Frame) → AreTied ws xs → length ws < length xs
+    → AreTied (ws ++ new_own th ∷ []) xs
 longer-tied [] [] th tied e = absurd (omega (arith, e))
 longer-tied [] (x ∷ xs) th tied e = tied
 longer-tied (w ∷ ws) [] th tied e = absurd tied
@@ -80,7 +72,8 @@ longer-tied (w ∷ ws) (x ∷ xs) th tied e = (tied.0, longer-tied ws xs th tied
 
 -- ---- in the definitions
 
-set-born : (f : Worker → Worker) (ws : List Worker) (t : ℕ) (w v b : Worker) → slice_get ws t ≡ Some w → f b ≡ b → slice_set (map f (ws ++ b ∷ [])) t v ≡ slice_set (map f ws) t v ++ b ∷ []
+set-born : (f : Worker → Worker) (ws : List Worker) (t : ℕ) (w v b : Worker) → slice_get ws t ≡ Some w → f b ≡ b → slice_set (map f (ws ++ b ∷ [])) t v
+    ≡ slice_set (map f ws) t v ++ b ∷ []
 set-born f [] zero w v b e same = cc
 set-born f [] (suc t) w v b e same = cc
 set-born f (u ∷ ws) zero w v b e same = ap (λ (rest : List Worker). v ∷ rest) (more ws)
@@ -92,7 +85,8 @@ set-born f (u ∷ ws) (suc t) w v b e same = ap (λ (rest : List Worker). f u �
 
 -- one that is made after the others is spared
 did-born : (s : State) (t : ℕ) (w : Worker) (retires : Bool) (effect : Effect Frame) (th : Thread Frame) → slice_get s.workers t ≡ Some w
-    → did (record s { workers = s.workers ++ new_worker th ∷ [] }) t w retires None (record effect { born = None }) ≡ did s t w retires None (record effect { born = Some th })
+    → did (record s { workers = s.workers ++ new_worker th ∷ [] }) t w retires None (record effect { born = None })
+    ≡ did s t w retires None (record effect { born = Some th })
 did-born s t w retires effect th e =
     let v : Worker = record w { thread = effect.thread; mode = mode_after retires effect.touch effect.store w.mode } in
     ap (λ (ws : List Worker). record (did s t w retires None (record effect { born = Some th })) { workers = ws })
@@ -108,7 +102,7 @@ abbrev with_more : OwnParts → CoreParts → CoreParts
 with_more z p = record p { own = p.own ++ z ∷ [] }
 
 unstarted : (z : OwnParts) (p : CoreParts) → core_unstarted (with_more z p) ≡ p
-unstarted z p = ap (λ (ws : List OwnParts). record p { own = ws }) (but-last p.own z)
+unstarted z p = ap (λ (ws : List OwnParts). record p { own = ws }) (take-front p.own z)
 
 module _ (p : CoreParts) (t : ℕ) (w : OwnParts) (x : Option (Transaction (CallStack Frame))) (k : WatchParts) (at : StandsAt p t w x k) (ups : List Upset)
     (th : Thread Frame) where
@@ -132,7 +126,8 @@ module _ (p : CoreParts) (t : ℕ) (w : OwnParts) (x : Option (Transaction (Call
 
     more-meant : state_of more ups ≡ record (state_of p ups) { workers = (state_of p ups).workers ++ new_worker th ∷ [] }
     more-meant =
-        let y : IsThere p.rtm.threads (length p.own) = there-within p.rtm.threads (length p.own) (subst (λ (n : ℕ). length p.own < n) (sym tied.threads) room) in
+        let y : IsThere p.rtm.threads (length p.own) =
+        there-within p.rtm.threads (length p.own) (subst (λ (n : ℕ). length p.own < n) (sym tied.threads) room) in
         let j : IsThere p.watches (length p.own) = there-within p.watches (length p.own) (subst (λ (n : ℕ). length p.own < n) (sym tied.watches) room) in
         ap (λ (ws : List Worker). record (state_of p ups) { workers = ws }) (more-joined p.own p.rtm.threads p.watches (new_own th) y.one j.one y.there j.there)
 
@@ -145,7 +140,8 @@ module _ (p : CoreParts) (t : ℕ) (w : OwnParts) (x : Option (Transaction (Call
     moved-more : moved more t w x k more-stands ups retires g ≡ with_more (new_own th) (moved p t w x k at ups retires g)
     moved-more = ap (λ (q : CoreParts). with_own t (with_thread g) q) (told-more retires (is_some x))
         ∙ ap (λ (ws : List OwnParts). record (told_by retires (is_some x) t p) { own = ws })
-        (own-longer (with_thread g) (told_by retires (is_some x) t p).own t (told_one retires (is_some x) w) (new_own th) (told-stands p t w k ups retires x at).made)
+        (own-longer (with_thread g) (told_by retires (is_some x) t p).own t (told_one retires (is_some x) w) (new_own th)
+        (told-stands p t w k ups retires x at).made)
 
 -- ---- its number is stored
 
@@ -197,7 +193,8 @@ module _ (p : CoreParts) (t : ℕ) (w : OwnParts) (x : Option (Transaction (Call
         ∙ ap (λ (o : Option (Transaction (CallStack Frame))). entry_if true (rtm.has_room_in touch o)) (thread-is p t w x k at ups)
         ∙ ap (λ (b : Bool). entry_if true b) (room-mode w.words.mode w x k touch at.tied)
 
-    numbered-is : core_numbered address (length p.own) t (core_called retires target 0 t longer) ≡ numbered_with (entry_if true (has_room_in one.mode (Some touch)))
+    numbered-is : core_numbered address (length p.own) t (core_called retires target 0 t longer)
+        ≡ numbered_with (entry_if true (has_room_in one.mode (Some touch)))
     numbered-is = ap (λ (r : CoreParts). core_numbered address (length p.own) t r) called-longer
         ∙ ap (λ (b : Bool). numbered_as b t (core_touched touch (store (length p.own)) t q)) (took-of (entry_of q.rtm t touch) (length p.own))
         ∙ ap (λ (en : Entry). numbered_with en) entry-is
@@ -206,10 +203,13 @@ module _ (p : CoreParts) (t : ℕ) (w : OwnParts) (x : Option (Transaction (Call
   unstarted-is = ap (λ (r : CoreParts). core_unstarted r) q-is ∙ unstarted (new_own born) (moved p t w x k at ups retires calls)
 
   room-tied : (b : Bool) → length p.own < thread_limit → IsTied (numbered_with (entry_if true b))
-  room-tied true room = touched-tied q t (moved_own longer t w x k then_at ups retires calls) x k (moved-stands longer t w x k then_at ups retires calls) ups touch (store (length p.own))
+  room-tied true room =
+      touched-tied q t (moved_own longer t w x k then_at ups retires calls) x k (moved-stands longer t w x k then_at ups retires calls) ups touch
+      (store (length p.own))
       (moved-tied longer t w x k then_at ups retires calls (more-tied p t w x k at ups born tied room))
   room-tied false room = subst (λ (r : CoreParts). IsTied (core_aborted Overflow t r)) (sym unstarted-is)
-      (aborted-tied (moved p t w x k at ups retires calls) t (moved_own p t w x k at ups retires calls) x k (moved-stands p t w x k at ups retires calls) ups Overflow
+      (aborted-tied (moved p t w x k at ups retires calls) t (moved_own p t w x k at ups retires calls) x k
+      (moved-stands p t w x k at ups retires calls) ups Overflow
       (moved-tied p t w x k at ups retires calls tied))
 
   created-tied-by : (b c : Bool) → nat_lt (length p.own) thread_limit ≡ b → is_valid p.rtm.memory.places address 8 ≡ c
@@ -245,7 +245,8 @@ module _ (p : CoreParts) (t : ℕ) (w : OwnParts) (x : Option (Transaction (Call
         ∙ full-q p t w x k at ups retires calls (calls (Running stack)) (ap calls runs) touch (store (length p.own)) e
 
     abbrev settled_as : Bool → Bool → State
-    settled_as b c = settled p.program s t one stack.frame retires None (outcomes.created (frames p.program) (seen s one.mode) target stack address n argument b c)
+    settled_as b c = settled p.program s t one stack.frame retires None
+        (outcomes.created (frames p.program) (seen s one.mode) target stack address n argument b c)
 
     created-by : (b c : Bool) → nat_lt (length p.own) thread_limit ≡ b → is_valid p.rtm.memory.places address 8 ≡ c
         → state_of (created_as b c retires target address n argument t p) ups ≡ settled_as b c
@@ -255,8 +256,10 @@ module _ (p : CoreParts) (t : ℕ) (w : OwnParts) (x : Option (Transaction (Call
     created-by true false e f = trapped-meant p t w x k at ups stack runs
     created-by false c e f = called-meant p t w x k at ups retires target 11 stack runs
 
-    pub created-meant : state_of (core_created retires target address n argument t p) ups ≡ acted p.program s t one stack target retires (Create address n argument)
+    pub created-meant : state_of (core_created retires target address n argument t p) ups
+        ≡ acted p.program s t one stack target retires (Create address n argument)
     created-meant = created-by (nat_lt (length p.own) thread_limit) (is_valid p.rtm.memory.places address 8) refl refl
         ∙ ap (λ (m : ℕ). settled_as (nat_lt m thread_limit) (is_valid p.rtm.memory.places address 8)) (sym (count-is p ups one.mode tied))
-        ∙ ap (λ (places : List Span). settled_as (nat_lt (length (seen s one.mode).threads) thread_limit) (is_valid places address 8)) (sym (seen-places one.mode p.rtm.memory))
+        ∙ ap (λ (places : List Span). settled_as (nat_lt (length (seen s one.mode).threads) thread_limit) (is_valid places address 8))
+        (sym (seen-places one.mode p.rtm.memory))
         ∙ sym (acted-none p.program s t one stack target retires (Create address n argument) one.mode)

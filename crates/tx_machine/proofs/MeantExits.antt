@@ -60,7 +60,8 @@ closed-in (Inside tx) s t w thread =
     ∙ ap (λ (ts : List ℕ). f (slice_set s.workers t v) ts) (sym (append_assoc s.turns (replicate tx.pending t) (t ∷ [])))
 
 held-in : (m : Mode) (s : State) (t : ℕ) (w : Worker) → can_end m ≡ false
-    → with_worker (told_state s t (record w { mode = m })) t (aborted Locked (told_worker (record w { mode = m }))) ≡ with_worker s t (aborted Locked (record w { mode = m }))
+    → with_worker (told_state s t (record w { mode = m })) t (aborted Locked (told_worker (record w { mode = m })))
+    ≡ with_worker s t (aborted Locked (record w { mode = m }))
 held-in (Free plain) s t w e = cc
 held-in (Inside tx) s t w e =
     let v : Worker = record w { mode = Inside tx } in
@@ -128,7 +129,8 @@ module _ (p : CoreParts) (t : ℕ) (w : OwnParts) (x : Option (Transaction (Call
   abbrev IsGoneTied : Type 0
   IsGoneTied = can_close p t ≡ true → IsTied p → IsTied (gone_as t n (core_closed t q))
 
-gone-meant : (t : ℕ) (p : CoreParts) (w : OwnParts) (x : Option (Transaction (CallStack Frame))) (k : WatchParts) (at : StandsAt p t w x k) (ups : List Upset) (n : ℕ)
+gone-meant : (t : ℕ) (p : CoreParts) (w : OwnParts) (x : Option (Transaction (CallStack Frame))) (k : WatchParts) (at : StandsAt p t w x k) (ups : List Upset)
+    (n : ℕ)
     → IsGone p t w x k at ups n
 gone-meant zero p w x k at ups n exits going e =
     let r : CoreParts = q p zero w x k at ups n in
@@ -140,7 +142,8 @@ gone-meant zero p w x k at ups n exits going e =
     (closed-meant r zero v x k (q-stands p zero w x k at ups n) ups
     ∙ ap (λ (b : Bool). where_ends b (state_of r ups) zero one (closed (state_of r ups) zero one.mode one)) can
     ∙ closed-then p zero w x k at ups n v.thread
-    ∙ ap (λ (th : Thread Frame). with_turn zero (closed s zero (joined_one w x k).mode (record (joined_one w x k) { thread = th }))) (told-thread true (is_some x) w ∙ exits))
+    ∙ ap (λ (th : Thread Frame). with_turn zero (closed s zero (joined_one w x k).mode (record (joined_one w x k) { thread = th })))
+    (told-thread true (is_some x) w ∙ exits))
 gone-meant (suc t) p w x k at ups n exits going e =
     let r : CoreParts = q p (suc t) w x k at ups n in
     let v : OwnParts = told_one true (is_some x) w in
@@ -151,14 +154,16 @@ gone-meant (suc t) p w x k at ups n exits going e =
     ∙ closed-then p (suc t) w x k at ups n Ended
     ∙ ap (λ (o : Option Stop). record (with_turn (suc t) (closed s (suc t) one.mode then)) { stop = o }) (closed-stop one.mode s (suc t) then ∙ going)
 
-gone-tied : (t : ℕ) (p : CoreParts) (w : OwnParts) (x : Option (Transaction (CallStack Frame))) (k : WatchParts) (at : StandsAt p t w x k) (ups : List Upset) (n : ℕ)
+gone-tied : (t : ℕ) (p : CoreParts) (w : OwnParts) (x : Option (Transaction (CallStack Frame))) (k : WatchParts) (at : StandsAt p t w x k) (ups : List Upset)
+    (n : ℕ)
     → IsGoneTied p t w x k at ups n
 gone-tied zero p w x k at ups n e tied =
     let so : IsTied (core_closed zero (q p zero w x k at ups n)) =
     closed-tied (q p zero w x k at ups n) zero (told_one true (is_some x) w) x k (q-stands p zero w x k at ups n) ups (q-tied p zero w x k at ups n tied) in
     record { threads = so.threads; watches = so.watches; own = so.own; tied = so.tied }
 gone-tied (suc t) p w x k at ups n e tied =
-    moved-closed-tied (q p (suc t) w x k at ups n) (suc t) (told_one true (is_some x) w) x k (q-stands p (suc t) w x k at ups n) ups (λ (th : Thread Frame). Ended)
+    moved-closed-tied (q p (suc t) w x k at ups n) (suc t) (told_one true (is_some x) w) x k (q-stands p (suc t) w x k at ups n) ups
+    (λ (th : Thread Frame). Ended)
     (can-same p (suc t) w x k at ups n ∙ e) (q-tied p (suc t) w x k at ups n tied)
 
 module _ (p : CoreParts) (t : ℕ) (w : OwnParts) (x : Option (Transaction (CallStack Frame))) (k : WatchParts) (at : StandsAt p t w x k) (ups : List Upset)

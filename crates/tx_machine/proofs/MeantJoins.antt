@@ -5,7 +5,6 @@ use Rattle.std.proofs.lemmas.List.{length-map}
 use Rattle.std.proofs.lemmas.Option.{slice_get-map}
 use Rattle.ir_core.specs.declared.types.Loc.{Loc}
 use Rattle.ir_core.specs.declared.values.Side.{Side}
-use Rattle.ir_layout.specs.Memory.{thread_limit}
 use Rattle.inst_meaning.specs.declared.actions.Action.TheVariants.{Join, Exit}
 use Rattle.process.specs.declared.state.CallStack.{CallStack}
 use Rattle.process.specs.declared.state.Thread.{Thread}
@@ -22,7 +21,7 @@ use Rattle.hard_meaning.specs.Effects.{turns_after}
 use Rattle.hard_meaning.specs.Turns.{settled, acted}
 use Rattle.tx_machine.specs.Own.{OwnParts}
 use Rattle.tx_machine.specs.Joined.{joined_one, joined}
-use Rattle.tx_machine.specs.Core.{CoreParts, core_told}
+use Rattle.tx_machine.specs.Core.{CoreParts}
 use Rattle.tx_machine.specs.Turned.{has_ended, ended_at, awaited_as, core_awaited, told_outside, core_left}
 use Rattle.tx_machine.specs.Meant.{state_of, IsTied, StandsAt}
 use Rattle.tx_machine.proofs.Meant.{open-is}
@@ -72,27 +71,21 @@ module _ (p : CoreParts) (t : ℕ) (w : OwnParts) (k : WatchParts) (ups : List U
   outside-told (Some tx) at = ap turns_as (sym (turns-inside w.words.mode w tx k retires t p.turns at.tied))
 
   outside-tied : (x : Option (Transaction (CallStack Frame))) → StandsAt p t w x k → IsTied p → IsTied (told_outside (is_some x) retires t p)
-  outside-tied None at tied = subst IsTied (sym (told-by retires t p ∙ ap (λ (b : Bool). told_by retires b t p) (open-is p t w None k at ups))) (free-tied retires tied)
+  outside-tied None at tied =
+      subst IsTied (sym (told-by retires t p ∙ ap (λ (b : Bool). told_by retires b t p) (open-is p t w None k at ups))) (free-tied retires tied)
   outside-tied (Some tx) at tied = tied
 
 -- ---- both actions
 
--- whether a thread has ended that was made
-ended-is : (o : Option OwnParts) → option_map (λ (v : OwnParts). has_ended v.thread) o ≡ option_map has_ended (option_map (λ (v : OwnParts). v.thread) o)
-ended-is None = refl
-ended-is (Some v) = refl
-
 module _ (p : CoreParts) (t : ℕ) (w : OwnParts) (x : Option (Transaction (CallStack Frame))) (k : WatchParts) (at : StandsAt p t w x k) (ups : List Upset)
     (retires : Bool) (target : Option (Side × Loc)) where
-  awaited-tied-by : (o : Option (Thread Frame)) → IsTied p → IsTied (awaited_as (option_map has_ended o) retires target t p)
+  awaited-tied-by : (o : Option Bool) → IsTied p → IsTied (awaited_as o retires target t p)
   awaited-tied-by None tied = trapped-tied p t w x k at ups tied
-  awaited-tied-by (Some (Running other)) tied = tied
-  awaited-tied-by (Some (Exiting n)) tied = tied
-  awaited-tied-by (Some Ended) tied = called-tied p t w x k at ups retires target 0 tied
+  awaited-tied-by (Some false) tied = tied
+  awaited-tied-by (Some true) tied = called-tied p t w x k at ups retires target 0 tied
 
   pub awaited-tied : (other : ℕ) → IsTied p → IsTied (core_awaited retires target other t p)
-  awaited-tied other tied = subst (λ (o : Option Bool). IsTied (awaited_as o retires target t p)) (sym (ended-is (slice_get p.own other)))
-      (awaited-tied-by (option_map (λ (v : OwnParts). v.thread) (slice_get p.own other)) tied)
+  awaited-tied other tied = awaited-tied-by (ended_at p other) tied
 
   pub left-tied : (code : ℕ) → IsTied p → IsTied (core_left retires code t p)
   left-tied code tied =
@@ -108,18 +101,23 @@ module _ (p : CoreParts) (t : ℕ) (w : OwnParts) (x : Option (Transaction (Call
     abbrev one : Worker
     one = joined_one w x k
 
-    awaited-by : (o : Option (Thread Frame)) → state_of (awaited_as (option_map has_ended o) retires target t p) ups
-        ≡ settled p.program s t one stack.frame retires None (outcomes.joined (frames p.program) (seen s one.mode) target stack o)
-    awaited-by None = trapped-meant p t w x k at ups stack runs
-    awaited-by (Some (Running other)) = refl
-    awaited-by (Some (Exiting n)) = refl
-    awaited-by (Some Ended) = called-meant p t w x k at ups retires target 0 stack runs
+    abbrev settled_as : Option (Thread Frame) → State
+    settled_as o = settled p.program s t one stack.frame retires None (outcomes.joined (frames p.program) (seen s one.mode) target stack o)
 
-    pub awaited-meant : (other : ℕ) → IsTied p → state_of (core_awaited retires target other t p) ups ≡ acted p.program s t one stack target retires (Join other)
-    awaited-meant other tied = ap (λ (o : Option Bool). state_of (awaited_as o retires target t p) ups) (ended-is (slice_get p.own other))
-        ∙ awaited-by (option_map (λ (v : OwnParts). v.thread) (slice_get p.own other))
-        ∙ ap (λ (o : Option (Thread Frame)). settled p.program s t one stack.frame retires None (outcomes.joined (frames p.program) (seen s one.mode) target stack o))
-        (sym (thread-at p ups one.mode tied other))
+    ended-by : (thread : Thread Frame) → state_of (awaited_as (Some (has_ended thread)) retires target t p) ups ≡ settled_as (Some thread)
+    ended-by (Running other) = refl
+    ended-by (Exiting n) = refl
+    ended-by Ended = called-meant p t w x k at ups retires target 0 stack runs
+
+    awaited-by : (o : Option OwnParts) → state_of (awaited_as (option_map (λ (v : OwnParts). has_ended v.thread) o) retires target t p) ups
+        ≡ settled_as (option_map (λ (v : OwnParts). v.thread) o)
+    awaited-by None = trapped-meant p t w x k at ups stack runs
+    awaited-by (Some other) = ended-by other.thread
+
+    pub awaited-meant : (other : ℕ) → IsTied p → state_of (core_awaited retires target other t p) ups
+        ≡ acted p.program s t one stack target retires (Join other)
+    awaited-meant other tied = awaited-by (slice_get p.own other)
+        ∙ ap settled_as (sym (thread-at p ups one.mode tied other))
         ∙ sym (acted-none p.program s t one stack target retires (Join other) one.mode)
 
     pub left-meant : (code : ℕ) → state_of (core_left retires code t p) ups ≡ acted p.program s t one stack target retires (Exit code)

@@ -1,12 +1,12 @@
 -- Checks of memory are those of the definitions.
-use Rattle.std.proofs.Common.{ℕ, ◌≡◌, ◌∙◌, Bool, true, false, List, map, Option, Some, None, slice_get, nat_eq, refl, ap, sym, subst}
+use Rattle.std.proofs.Common.{ℕ, ◌≡◌, ◌∙◌, Bool, true, false, List, Option, Some, None, nat_eq, refl, ap, sym}
 use Rattle.std.specs.Option.{is_some, option_map_or}
 use Rattle.ir_core.specs.declared.types.Ty.{Ty}
 use Rattle.ir_core.specs.declared.types.Width.{Width}
 use Rattle.ir_core.specs.declared.types.Width.TheVariants.{W64}
 use Rattle.ir_layout.specs.Memory.{is_valid}
 use Rattle.mem_image.specs.Accesses.{bytes}
-use Rattle.mem_image.specs.Bytes.{Memory, peek}
+use Rattle.mem_image.specs.Bytes.{peek}
 use Rattle.mem_image.specs.Touches.{Touch}
 use Rattle.inst_meaning.specs.declared.actions.Place.{Place}
 use Rattle.inst_meaning.specs.Action.{place_at}
@@ -34,10 +34,10 @@ use Rattle.hard_meaning.specs.State.{Transaction, Mode, Free, Inside, Worker, St
 use Rattle.hard_meaning.specs.Aborts.{Status, Mismatch, Overflow, Other, aborted, spared}
 use Rattle.hard_meaning.specs.Effects.{with_worker, where_room}
 use Rattle.hard_meaning.specs.Turns.{halted, trapped, onward, matched, read_back, read_at, read_as, memory_checked}
-use Rattle.tx_machine.specs.Own.{OwnParts, passed_thread, once_passed}
+use Rattle.tx_machine.specs.Own.{OwnParts, passed_thread}
 use Rattle.tx_machine.specs.Joined.{joined_one, is_in}
 use Rattle.tx_machine.specs.Core.{CoreParts, is_open, core_aborted, core_touched, touched_as}
-use Rattle.tx_machine.specs.Turned.{sought_at, sought_as, sought_in, sought, met_as, found_as, core_matched, seeking, memory_checked_as, core_memory_checked}
+use Rattle.tx_machine.specs.Turned.{sought_at, sought_as, sought_in, sought, met_as, found_as, seeking, memory_checked_as, core_memory_checked}
 use Rattle.tx_machine.specs.Meant.{state_of, IsTied, StandsAt}
 use Rattle.tx_machine.proofs.Meant.{thread-is, open-is}
 use Rattle.tx_machine.proofs.MeantAborts.{in_mode, aborted-meant, aborted-tied, trapped-meant, trapped-tied}
@@ -46,7 +46,7 @@ use Rattle.tx_machine.proofs.MeantEnds.{twice}
 use Rattle.tx_machine.proofs.MeantTouches.{touched-tied}
 use Rattle.tx_machine.proofs.MeantMatches.{mismatch-meant, mismatch-tied}
 use Rattle.tx_machine.proofs.MeantAlone.{moved_on, moved_state, set-map}
-use Rattle.tx_machine.proofs.MeantActions.{moved, moved_own, moved-stands, moved-tied, moved-meant, moved-worker, done-q, full-q}
+use Rattle.tx_machine.proofs.MeantActions.{moved, moved_own, moved-stands, moved-tied, moved-meant, moved-worker, done-q}
 use Rattle.tx_machine.proofs.MeantWatches.{tx_of}
 
 -- ---- in the definitions
@@ -84,7 +84,8 @@ free-checked h s t Plain w k stack ty ptr val = refl
 
 -- ---- a word is read inside
 
-module _ (p : CoreParts) (t : ℕ) (w : OwnParts) (x : Option (rtm.Transaction (CallStack Frame))) (k : WatchParts) (at : StandsAt p t w x k) (ups : List Upset) where
+module _ (p : CoreParts) (t : ℕ) (w : OwnParts) (x : Option (rtm.Transaction (CallStack Frame))) (k : WatchParts) (at : StandsAt p t w x k)
+    (ups : List Upset) where
   -- the thread has passed
   abbrev q : CoreParts
   q = moved p t w x k at ups false passed_thread
@@ -184,7 +185,8 @@ module _ (p : CoreParts) (t : ℕ) (w : OwnParts) (tx : rtm.Transaction (CallSta
     back-as true = refl
     back-as false = refl
 
-    found-by : (valid room : Bool) → state_of (found_as (got_of (entry_if valid room) seen_word) word t (touched_as (entry_if valid room) touch None t r)) ups ≡ back_as valid room
+    found-by : (valid room : Bool) → state_of (found_as (got_of (entry_if valid room) seen_word) word t (touched_as (entry_if valid room) touch None t r)) ups
+        ≡ back_as valid room
     found-by false room = trapped-r
     found-by true false = aborted-r Overflow
     found-by true true = met-by (nat_eq seen_word word)

@@ -1,5 +1,5 @@
 -- Requests to the environment are those of the definitions.
-use Rattle.std.proofs.Common.{ℕ, ◌≡◌, ◌∙◌, Bool, true, false, List, Option, Some, None, refl, ap, sym, subst}
+use Rattle.std.proofs.Common.{ℕ, ◌≡◌, ◌∙◌, Bool, List, Option, refl, ap, sym, subst}
 use Rattle.std.specs.Option.{is_some, option_map_or}
 use Rattle.ir_core.specs.declared.types.Loc.{Loc}
 use Rattle.ir_core.specs.declared.values.Side.{Side}
@@ -30,7 +30,7 @@ use Rattle.tx_machine.specs.Meant.{state_of, IsTied, StandsAt}
 use Rattle.tx_machine.proofs.Meant.{open-is}
 use Rattle.tx_machine.proofs.MeantAborts.{trapped-meant, trapped-tied}
 use Rattle.tx_machine.proofs.MeantPasses.{with_thread}
-use Rattle.tx_machine.proofs.MeantActions.{told_by, told-by, told-program, told-thread, told-stands, told, told_own, moved, moved-world}
+use Rattle.tx_machine.proofs.MeantActions.{told_by, told-by, told-program, told-thread, told-stands, told, moved-world}
 use Rattle.tx_machine.proofs.MeantCalls.{calling, done-settled, moved_with, takes-meant, takes-tied}
 
 module _ (p : CoreParts) (t : ℕ) (w : OwnParts) (x : Option (Transaction (CallStack Frame))) (k : WatchParts) (at : StandsAt p t w x k) (ups : List Upset)
@@ -52,12 +52,14 @@ module _ (p : CoreParts) (t : ℕ) (w : OwnParts) (x : Option (Transaction (Call
 
   reply-is : reply_at (core_told retires t p) t request ≡ reply_in request t p.world w.thread
   reply-is = ap (λ (r : CoreParts). reply_at r t request) told-is
-      ∙ ap (λ (o : Option OwnParts). option_map_or (λ (v : OwnParts). reply_in request t told_parts.world v.thread) o Waits) (told-stands p t w k ups retires x at).made
+      ∙ ap (λ (o : Option OwnParts). option_map_or (λ (v : OwnParts). reply_in request t told_parts.world v.thread) o Waits)
+      (told-stands p t w k ups retires x at).made
       ∙ ap (λ (th : Thread Frame). reply_in request t told_parts.world th) (told-thread retires (is_some x) w)
       ∙ ap (λ (wo : WorldParts). reply_in request t wo w.thread) told-world
 
   world-is : world_at told_parts t request ≡ world_then
-  world-is = ap (λ (o : Option OwnParts). option_map_or (λ (v : OwnParts). world_in request t told_parts.world v.thread) o told_parts.world) (told-stands p t w k ups retires x at).made
+  world-is = ap (λ (o : Option OwnParts). option_map_or (λ (v : OwnParts). world_in request t told_parts.world v.thread) o told_parts.world)
+      (told-stands p t w k ups retires x at).made
       ∙ ap (λ (th : Thread Frame). world_in request t told_parts.world th) (told-thread retires (is_some x) w)
       ∙ ap (λ (wo : WorldParts). world_in request t wo w.thread) told-world
 
@@ -112,5 +114,6 @@ module _ (p : CoreParts) (t : ℕ) (w : OwnParts) (x : Option (Transaction (Call
     -- the environment is asked, and a mutex that it gives is taken
     pub asked-meant : state_of (core_asked retires target request t p) ups
         ≡ settled p.program s t one stack.frame retires mutex (outcome_of (frames p.program) (seen s one.mode) t target stack (Ask request))
-    asked-meant = ap (λ (r : Reply). state_of (replied_as r retires target request t p) ups) (reply-is ∙ ap (λ (th : Thread Frame). reply_in request t p.world th) runs)
+    asked-meant = ap (λ (r : Reply). state_of (replied_as r retires target request t p) ups)
+        (reply-is ∙ ap (λ (th : Thread Frame). reply_in request t p.world th) runs)
         ∙ by-reply (asked_of request t p.world).1 refl

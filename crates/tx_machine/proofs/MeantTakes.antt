@@ -1,19 +1,19 @@
 -- A mutex that a thread takes: all others that watch it are aborted, as the definitions have it.
-use Rattle.std.proofs.Common.{ℕ, zero, suc, ◌≡◌, ◌∙◌, ◌<◌, ◌≤◌, ◌+◌, Bool, true, false, not, ◌&&◌, ◌||◌, List, [], ◌∷◌, map, length, Option, Some, None, slice_get, slice_set, nat_eq, refl, ap, sym, subst, arith}
-use Rattle.std.specs.Option.{is_some, option_map_or}
+use Rattle.std.proofs.Common.{ℕ, zero, suc, ◌≡◌, ◌∙◌, ◌<◌, ◌≤◌, ◌+◌, Bool, true, false, not, ◌&&◌, List, [], ◌∷◌, map, length, Option, Some, None, slice_get, slice_set, nat_eq, refl, ap, sym, subst, arith}
+use Rattle.std.specs.Option.{option_map_or}
 use Rattle.process.specs.declared.state.CallStack.{CallStack}
 use Rattle.hard_frames.specs.declared.state.Frame.{Frame}
 use Rattle.line_sets.specs.Sets.{has}
-use Rattle.elide.specs.Watches.{WatchParts, nothing_watched, watch_of}
+use Rattle.elide.specs.Watches.{WatchParts, nothing_watched}
 use Rattle.rtm_core.specs.Transactions.{Transaction, thread}
 use Rattle.tx_runtime.specs.declared.words.Mode as runtime
 use Rattle.tx_runtime.specs.declared.words.Mode.TheVariants.{Out, In, Plain}
 use Rattle.hard_meaning.specs.State.{Worker, State, Upset}
-use Rattle.hard_meaning.specs.Aborts.{Conflict, Claim, aborted, aborted_if, spared}
+use Rattle.hard_meaning.specs.Aborts.{Conflict, Claim, aborted_if, spared}
 use Rattle.hard_meaning.specs.Effects.{with_worker}
 use Rattle.tx_machine.specs.Own.{OwnParts, once_undone}
-use Rattle.tx_machine.specs.Joined.{joined_one, joined, is_in}
-use Rattle.tx_machine.specs.Core.{CoreParts, own_with, aborted_as, core_aborted, watcher_if, watches_other, watchers_aborted, core_taken}
+use Rattle.tx_machine.specs.Joined.{joined_one, joined}
+use Rattle.tx_machine.specs.Core.{CoreParts, aborted_as, watcher_if, watches_other, watchers_aborted, core_taken}
 use Rattle.tx_machine.specs.Meant.{state_of, IsTied, StandsAt}
 use Rattle.tx_machine.proofs.Undone.{spared_if, spared_but, stays-spared}
 use Rattle.tx_machine.proofs.Meant.{length-set, IsFound, found, IsThere, there-within, worker-is, stays}
@@ -108,7 +108,8 @@ module _ (p : CoreParts) (u : ℕ) (w : OwnParts) (x : Option (Transaction (Call
   watcher-meant : (t address : ℕ) → state_of (watcher_if (watches_other p t address u) u p) ups
       ≡ with_worker (state_of p ups) u (spared_if (nat_eq u t) (taking address) (joined_one w x k))
   watcher-meant t address = watcher-by (watches_other p t address u)
-      ∙ ap (λ (j : WatchParts). with_worker (state_of p ups) u (aborted_if (not (nat_eq u t) && has j.watched address) (joined_one w x k))) (index-there p.watches u k nothing_watched at.watching)
+      ∙ ap (λ (j : WatchParts). with_worker (state_of p ups) u (aborted_if (not (nat_eq u t) && has j.watched address) (joined_one w x k)))
+      (index-there p.watches u k nothing_watched at.watching)
       ∙ ap (λ (v : Worker). with_worker (state_of p ups) u v) (taken-in w.words.mode (nat_eq u t) address w x k)
 
 -- ---- all of them
@@ -132,7 +133,8 @@ module _ (p : CoreParts) (t address : ℕ) (ups : List Upset) where
       record {
         meant = watcher-meant q n one.one f.tx f.watch f.stands ups t address
             ∙ ap (λ (s : State). with_worker s n (spared_if (nat_eq n t) (taking address) v)) so.meant
-            ∙ ap (λ (m : ℕ). with_worker (record (state_of p ups) { workers = spared_first t (taking address) n 0 (state_of p ups).workers }) n (spared_if (nat_eq m t) (taking address) v)) (none_more n)
+            ∙ ap (λ (m : ℕ). with_worker (record (state_of p ups) { workers = spared_first t (taking address) n 0 (state_of p ups).workers }) n
+            (spared_if (nat_eq m t) (taking address) v)) (none_more n)
             ∙ ap (λ (ws : List Worker). record (state_of p ups) { workers = ws }) (one-more t (taking address) n 0 (state_of p ups).workers v there);
         tied = watcher-tied q n one.one f.tx f.watch f.stands ups (watches_other q t address n) so.tied;
         count = watcher-count (watches_other q t address n) n q ∙ so.count;
@@ -148,10 +150,12 @@ module _ (p : CoreParts) (t address : ℕ) (ups : List Upset) where
   pub taken-tied : IsTied p → IsTied (core_taken address t p)
   taken-tied tied = (all-taken (length p.own) (omega arith) tied).tied
 
-  pub taken-meant : (w : OwnParts) (x : Option (Transaction (CallStack Frame))) (k : WatchParts) → StandsAt p t w x k → IsTied p → state_of (core_taken address t p) ups
+  pub taken-meant : (w : OwnParts) (x : Option (Transaction (CallStack Frame))) (k : WatchParts) → StandsAt p t w x k → IsTied p
+      → state_of (core_taken address t p) ups
       ≡ record (state_of p ups) { workers = slice_set (map (spared (taking address)) (state_of p ups).workers) t (joined_one w x k) }
   taken-meant w x k at tied =
       let ws : List Worker = (state_of p ups).workers in
       (all-taken (length p.own) (omega arith) tied).meant
-      ∙ ap (λ (vs : List Worker). record (state_of p ups) { workers = vs }) (all-first t (taking address) (length p.own) 0 ws (few-joined p.own p.rtm.threads p.watches))
+      ∙ ap (λ (vs : List Worker). record (state_of p ups) { workers = vs })
+      (all-first t (taking address) (length p.own) 0 ws (few-joined p.own p.rtm.threads p.watches))
       ∙ ap (λ (vs : List Worker). record (state_of p ups) { workers = vs }) (stays-spared t (taking address) ws (joined_one w x k) (worker-is p t w x k at ups))

@@ -24,7 +24,7 @@ use Rattle.hard_meaning.specs.Locks.{MutexCall, Locks, Unlocks, mutex_request, t
 use Rattle.hard_meaning.specs.Turns.{settled, watched_if, acted_by, acted}
 use Rattle.tx_machine.specs.Own.{OwnParts}
 use Rattle.tx_machine.specs.Joined.{joined_one, joined, is_in}
-use Rattle.tx_machine.specs.Core.{CoreParts, core_closed, core_asked}
+use Rattle.tx_machine.specs.Core.{CoreParts}
 use Rattle.tx_machine.specs.Turned.{core_called, can_watch_in, once_watching, watching_at, watched_as, core_watched, requested_as, core_request}
 use Rattle.tx_machine.specs.Meant.{state_of, IsTied, StandsAt}
 use Rattle.tx_machine.proofs.Joined.{set-joined, set-same}
@@ -32,7 +32,7 @@ use Rattle.tx_machine.proofs.Meant.{length-set, open-is}
 use Rattle.tx_machine.proofs.MeantAborts.{in_mode}
 use Rattle.tx_machine.proofs.MeantPasses.{with_thread}
 use Rattle.tx_machine.proofs.MeantEnds.{index-there, twice, closed-meant, closed-tied}
-use Rattle.tx_machine.proofs.MeantAlone.{moved_on, moved_state, alone-after}
+use Rattle.tx_machine.proofs.MeantAlone.{moved_on, alone-after}
 use Rattle.tx_machine.proofs.MeantActions.{told_by, told_one, moved, moved_own, moved-stands, moved-tied, acted-none}
 use Rattle.tx_machine.proofs.MeantCalls.{call_in, called-is, called-moved}
 use Rattle.tx_machine.proofs.MeantRequests.{asked-meant, asked-tied}
@@ -47,7 +47,8 @@ module _ (p : CoreParts) (t : ℕ) (w : OwnParts) (x : Option (RtmTransaction (C
   watch-meant : state_of with_watch ups ≡ with_worker (state_of p ups) t (joined_one w x j)
   watch-meant = ap (λ (ws : List Worker). record (state_of p ups) { workers = ws })
       (ap (λ (ws : List OwnParts). joined ws p.rtm.threads (slice_set p.watches t j)) (sym (set-same p.own t w at.made))
-      ∙ ap (λ (xs : List (Option (RtmTransaction (CallStack Frame)))). joined (slice_set p.own t w) xs (slice_set p.watches t j)) (sym (set-same p.rtm.threads t x at.open_there))
+      ∙ ap (λ (xs : List (Option (RtmTransaction (CallStack Frame)))). joined (slice_set p.own t w) xs (slice_set p.watches t j))
+      (sym (set-same p.rtm.threads t x at.open_there))
       ∙ set-joined p.own p.rtm.threads p.watches t w x j)
 
   watch-tied : IsTied p → IsTied with_watch
@@ -76,13 +77,15 @@ module _ (g : Thread Frame → Thread Frame) (w : OwnParts) (tx : RtmTransaction
   watch-one In false (Locks address) e = refl
   watch-one In false (Unlocks address) e = refl
 
-pub turns-inside : (mode : runtime.Mode) (w : OwnParts) (tx : RtmTransaction (CallStack Frame)) (k : WatchParts) (retires : Bool) (t : ℕ) (turns : List ℕ) → true ≡ is_in mode
+pub turns-inside : (mode : runtime.Mode) (w : OwnParts) (tx : RtmTransaction (CallStack Frame)) (k : WatchParts) (retires : Bool) (t : ℕ) (turns : List ℕ)
+    → true ≡ is_in mode
     → turns_after (joined_one (in_mode mode w) (Some tx) k).mode retires t turns ≡ turns
 turns-inside Out w tx k retires t turns e = cc
 turns-inside Plain w tx k retires t turns e = cc
 turns-inside In w tx k retires t turns e = refl
 
-module _ (h : HardParts) (s : State) (t : ℕ) (stack : CallStack Frame) (target : Option (Side × Loc)) (retires : Bool) (action : Action) (w : OwnParts) (k : WatchParts) where
+module _ (h : HardParts) (s : State) (t : ℕ) (stack : CallStack Frame) (target : Option (Side × Loc)) (retires : Bool) (action : Action) (w : OwnParts)
+    (k : WatchParts) where
   acted-inside : (mode : runtime.Mode) (tx : RtmTransaction (CallStack Frame)) (call : MutexCall) → true ≡ is_in mode
       → watched_if (can_watch call s.world (tx_of w tx k)) s t (joined_one (in_mode mode w) (Some tx) k) stack target retires call h (tx_of w tx k)
       ≡ acted_by h s t (joined_one (in_mode mode w) (Some tx) k) stack target retires action (joined_one (in_mode mode w) (Some tx) k).mode (Some call)
@@ -113,7 +116,8 @@ module _ (p : CoreParts) (t : ℕ) (w : OwnParts) (tx : RtmTransaction (CallStac
   watches-same false = refl
 
   can-locks : (c : MutexCall) → can_watch_in c t p ≡ can_watch c p.world (tx_of w tx k)
-  can-locks (Locks address) = ap (λ (j : WatchParts). is_none (owner_of p.world.owners address) && can_lock j address) (index-there p.watches t k nothing_watched at.watching)
+  can-locks (Locks address) =
+      ap (λ (j : WatchParts). is_none (owner_of p.world.owners address) && can_lock j address) (index-there p.watches t k nothing_watched at.watching)
   can-locks (Unlocks address) = ap (λ (j : WatchParts). can_unlock j address) (index-there p.watches t k nothing_watched at.watching)
 
   watching-is : watching_at call t (core_called retires target 0 t p) ≡ record done_parts { watches = slice_set done_parts.watches t (once_watching call k) }
@@ -123,7 +127,8 @@ module _ (p : CoreParts) (t : ℕ) (w : OwnParts) (tx : RtmTransaction (CallStac
 
   watching-tied : (b : Bool) → IsTied p → IsTied (watched_as b call retires target t p)
   watching-tied true tied = subst IsTied (sym watching-is)
-      (watch-tied done_parts t (moved_own p t w (Some tx) k at ups retires call_of) (Some tx) k (moved-stands p t w (Some tx) k at ups retires call_of) ups (once_watching call k)
+      (watch-tied done_parts t (moved_own p t w (Some tx) k at ups retires call_of) (Some tx) k (moved-stands p t w (Some tx) k at ups retires call_of) ups
+      (once_watching call k)
       (moved-tied p t w (Some tx) k at ups retires call_of tied))
   watching-tied false tied = closed-tied p t w (Some tx) k at ups tied
 
@@ -148,17 +153,20 @@ module _ (p : CoreParts) (t : ℕ) (w : OwnParts) (tx : RtmTransaction (CallStac
     watched-by true =
         let f : State → Worker → State = λ z u. with_worker z t u in
         ap (λ (q : CoreParts). state_of q ups) watching-is
-        ∙ watch-meant done_parts t (moved_own p t w (Some tx) k at ups retires call_of) (Some tx) k (moved-stands p t w (Some tx) k at ups retires call_of) ups (once_watching call k)
+        ∙ watch-meant done_parts t (moved_own p t w (Some tx) k at ups retires call_of) (Some tx) k (moved-stands p t w (Some tx) k at ups retires call_of) ups
+        (once_watching call k)
         ∙ ap (λ (u : Worker). f (state_of done_parts ups) u) (watch-one call_of w tx k w.words.mode retires call at.tied)
         ∙ ap (λ (th : Thread Frame). f (state_of done_parts ups) (record (moved_on s t v retires then_thread) { thread = call_of th })) runs
         ∙ ap (λ (q : CoreParts). f (state_of q ups) (moved_on s t v retires then_thread)) (sym (called-is p t w (Some tx) k at ups retires target 0))
         ∙ ap (λ (z : State). f z (moved_on s t v retires then_thread)) (called-moved p t w (Some tx) k at ups retires target 0 stack runs)
-        ∙ ap (λ (z : State). record z { turns = turns_after one.mode retires t s.turns }) (twice s t (moved_on s t one retires then_thread) (moved_on s t v retires then_thread))
+        ∙ ap (λ (z : State). record z { turns = turns_after one.mode retires t s.turns })
+        (twice s t (moved_on s t one retires then_thread) (moved_on s t v retires then_thread))
         ∙ ap (λ (ts : List ℕ). record (f s (moved_on s t v retires then_thread)) { turns = ts }) (turns-inside w.words.mode w tx k retires t s.turns at.tied)
         ∙ alone-after s t v retires then_thread
     watched-by false = closed-meant p t w (Some tx) k at ups
 
-    watched-meant : (action : Action) → state_of (core_watched call retires target t p) ups ≡ acted_by p.program s t one stack target retires action one.mode (Some call)
+    watched-meant : (action : Action) → state_of (core_watched call retires target t p) ups
+        ≡ acted_by p.program s t one stack target retires action one.mode (Some call)
     watched-meant action = watched-by (can_watch_in call t p)
         ∙ ap (λ (b : Bool). watched_if b s t one stack target retires call p.program (tx_of w tx k)) (can-locks call)
         ∙ acted-inside p.program s t stack target retires action w k w.words.mode tx call at.tied
@@ -178,12 +186,14 @@ module _ (p : CoreParts) (t : ℕ) (w : OwnParts) (k : WatchParts) (ups : List U
         ≡ acted_by p.program (state_of p ups) t (joined_one w x k) stack target retires (Ask request) (joined_one w x k).mode call
     by-mode None call e at = asked-meant p t w None k at ups retires target request stack runs tied
         ∙ acted-outside p.program (state_of p ups) t stack target retires (Ask request) w k w.words.mode (mutex_request request)
-        ∙ ap (λ (c : Option MutexCall). acted_by p.program (state_of p ups) t (joined_one w None k) stack target retires (Ask request) (joined_one w None k).mode c) e
+        ∙ ap (λ (c : Option MutexCall). acted_by p.program (state_of p ups) t (joined_one w None k) stack target retires (Ask request)
+        (joined_one w None k).mode c) e
     by-mode (Some tx) None e at =
         let s : State = state_of p ups in
         let one : Worker = joined_one w (Some tx) k in
         asked-meant p t w (Some tx) k at ups retires target request stack runs tied
-        ∙ ap (λ (c : Option MutexCall). settled p.program s t one stack.frame retires (taken_by c) (outcome_of (frames p.program) (seen s one.mode) t target stack (Ask request))) e
+        ∙ ap (λ (c : Option MutexCall). settled p.program s t one stack.frame retires (taken_by c)
+        (outcome_of (frames p.program) (seen s one.mode) t target stack (Ask request))) e
         ∙ sym (acted-none p.program s t one stack target retires (Ask request) one.mode)
     by-mode (Some tx) (Some call) e at = watched-meant p t w tx k at ups retires target call stack runs (Ask request)
 
