@@ -77,11 +77,6 @@ module _ (p : CoreParts) (t : ℕ) (w : OwnParts) (k : WatchParts) (ups : List U
 
 -- ---- both actions
 
--- whether a thread has ended that was made
-ended-is : (o : Option OwnParts) → option_map (λ (v : OwnParts). has_ended v.thread) o ≡ option_map has_ended (option_map (λ (v : OwnParts). v.thread) o)
-ended-is None = refl
-ended-is (Some v) = refl
-
 module _ (p : CoreParts) (t : ℕ) (w : OwnParts) (x : Option (Transaction (CallStack Frame))) (k : WatchParts) (at : StandsAt p t w x k) (ups : List Upset)
     (retires : Bool) (target : Option (Side × Loc)) where
   awaited-tied-by : (o : Option Bool) → IsTied p → IsTied (awaited_as o retires target t p)

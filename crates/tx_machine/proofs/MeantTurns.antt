@@ -4,7 +4,6 @@ use Rattle.std.specs.Option.{is_some, option_map_or, option_flatten}
 use Rattle.ir_core.specs.declared.instruction.Inst.{Inst}
 use Rattle.ir_core.specs.declared.types.Loc.{Loc}
 use Rattle.ir_core.specs.declared.values.Side.{Side}
-use Rattle.ir_core.specs.declared.instruction.Inst.{Inst}
 use Rattle.inst_meaning.specs.declared.actions.Action.{Action}
 use Rattle.inst_meaning.specs.declared.actions.Action.TheVariants.{Assign, Reserve, Read, Write, Update, Pass, Jump, Call, Ask, Create, Join, Exit, Return, Fault}
 use Rattle.process.specs.declared.state.CallStack.{CallStack}
