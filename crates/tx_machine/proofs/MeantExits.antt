@@ -1,7 +1,8 @@
 -- A thread that ends is that of the definitions.
-use Rattle.std.proofs.Common.{ℕ, zero, suc, ◌≡◌, ◌∙◌, ◌%◌, ◌^◌, Bool, true, false, List, [], ◌∷◌, ◌++◌, append_assoc, Option, Some, None, slice_set, refl, ap, sym, subst}
+use Rattle.std.proofs.Common.{ℕ, zero, suc, ◌≡◌, ◌∙◌, ◌+◌, ◌%◌, ◌^◌, Bool, true, false, List, [], ◌∷◌, ◌++◌, append_assoc, Option, Some, None, slice_set, refl, ap, sym, subst, arith}
 use Rattle.std.specs.Prelude.{replicate}
 use Rattle.std.specs.Option.{is_some}
+use Rattle.std.proofs.lemmas.List.{replicate-append-replicate}
 use Rattle.process.specs.declared.state.CallStack.{CallStack}
 use Rattle.process.specs.declared.state.Thread.{Thread}
 use Rattle.process.specs.declared.state.Thread.TheVariants.{Exiting, Ended}
@@ -28,8 +29,9 @@ use Rattle.tx_machine.proofs.MeantActions.{told_by, told_one, told_turns, told-b
 -- ---- in the definitions
 
 one-more : (n t : ℕ) → replicate (suc n) t ≡ replicate n t ++ t ∷ []
-one-more zero t = refl
-one-more (suc n) t = ap (λ rest. t ∷ rest) (one-more n t)
+one-more n t =
+    let more : suc n ≡ n + 1 = omega arith in
+    ap (λ (m : ℕ). replicate m t) more ∙ sym (replicate-append-replicate n 1 t)
 
 -- a turn is told
 abbrev told_worker : Worker → Worker

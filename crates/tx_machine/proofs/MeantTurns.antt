@@ -1,6 +1,7 @@
 -- A turn of a thread, and an abort that was asked for, are those of the definitions.
-use Rattle.std.proofs.Common.{ℕ, zero, suc, ◌≡◌, ◌∙◌, Bool, false, List, [], ◌∷◌, Option, Some, None, slice_get, refl, ap, sym, subst}
+use Rattle.std.proofs.Common.{ℕ, zero, suc, ◌≡◌, ◌∙◌, Bool, false, List, [], ◌∷◌, Option, Some, None, slice_get, refl, ap, sym, subst, arith}
 use Rattle.std.specs.Option.{is_some, option_map_or, option_flatten}
+use Rattle.std.proofs.lemmas.Option.{slice_get_past}
 use Rattle.ir_core.specs.declared.instruction.Inst.{Inst}
 use Rattle.ir_core.specs.declared.types.Loc.{Loc}
 use Rattle.ir_core.specs.declared.values.Side.{Side}
@@ -39,15 +40,9 @@ use Rattle.tx_machine.proofs.MeantExits.{exited-meant, exited-tied}
 
 none-joined : (ws : List OwnParts) (xs : List (Option (Transaction (CallStack Frame)))) (ks : List WatchParts) (t : ℕ) → slice_get ws t ≡ None
     → slice_get (joined ws xs ks) t ≡ None
-none-joined [] xs ks t e = e_none t
-  where
-    e_none : (t : ℕ) → slice_get {X = Worker} [] t ≡ None
-    e_none zero = refl
-    e_none (suc t) = refl
-none-joined (w ∷ ws) [] ks zero e = refl
-none-joined (w ∷ ws) [] ks (suc t) e = refl
-none-joined (w ∷ ws) (x ∷ xs) [] zero e = refl
-none-joined (w ∷ ws) (x ∷ xs) [] (suc t) e = refl
+none-joined [] xs ks t e = slice_get_past [] t (omega arith)
+none-joined (w ∷ ws) [] ks t e = slice_get_past [] t (omega arith)
+none-joined (w ∷ ws) (x ∷ xs) [] t e = slice_get_past [] t (omega arith)
 none-joined (w ∷ ws) (x ∷ xs) (k ∷ ks) zero e = cc
 none-joined (w ∷ ws) (x ∷ xs) (k ∷ ks) (suc t) e = none-joined ws xs ks t e
 
@@ -188,11 +183,7 @@ module _ (p : CoreParts) (t : ℕ) (ups : List Upset) (tied : IsTied p) where
   never-open [] [] zero e so = refl
   never-open [] [] (suc t) e so = refl
   never-open [] (x ∷ xs) zero e so = so.0
-  never-open [] (x ∷ xs) (suc t) e so = never-open [] xs t (e_none t) so.1
-    where
-      e_none : (t : ℕ) → slice_get {X = OwnParts} [] t ≡ None
-      e_none zero = refl
-      e_none (suc t) = refl
+  never-open [] (x ∷ xs) (suc t) e so = never-open [] xs t (slice_get_past [] t (omega arith)) so.1
   never-open (w ∷ ws) [] t e so = absurd so
   never-open (w ∷ ws) (x ∷ xs) zero e so = cc
   never-open (w ∷ ws) (x ∷ xs) (suc t) e so = never-open ws xs t e so.1

@@ -135,7 +135,13 @@ impl<'a> Core<'a> {
     }
 
     // A check of memory. For want of memory nothing changes.
-    fn check_memory(&mut self, t: Tid, ty: &Ty, ptr: &HVal, val: &HVal) -> Result<(), AllocError>
+    fn check_memory(
+        &mut self,
+        t: Tid,
+        ty: &Ty,
+        ptr: &HVal,
+        val: &HVal,
+    ) -> Result<(), AllocError>
         requires made { t.0 < length self.old.own }
         requires pass { CanPassIn self.old t.0 }
         ensures ok { OnOk result (self.new ≡ core_memory_checked ty.now ptr.now val.now t.0 self.old) }
