@@ -17,7 +17,7 @@ use Rattle.elide.specs.Watches.{WatchParts}
 use Rattle.rtm_core.specs.Transactions.{Transaction, thread}
 use Rattle.tx_machine.specs.Own.{OwnParts, new_own, kept_thread, kept_by, once_pending}
 use Rattle.tx_machine.specs.Joined.{is_in}
-use Rattle.tx_machine.specs.Core.{CoreParts, own_with, is_open, CanPassIn, kept_in, BeginsOutside, told_as, core_told}
+use Rattle.tx_machine.specs.Core.{CoreParts, own_with, is_open, CanPassIn, kept_in, BeginsOutside, told_as, core_told, can_close}
 use Rattle.tx_machine.specs.Meant.{IsTied}
 use Rattle.tx_machine.specs.Turned.{core_called, core_started, core_unstarted}
 use Rattle.tx_machine.proofs.Told.{take-front}
@@ -46,6 +46,16 @@ called-watches false target n t p = refl
 called-watches true target n t p = by_open (is_open p t)
   where
     by_open : (b : Bool) → (told_as b t p).watches ≡ p.watches
+    by_open true = refl
+    by_open false = refl
+
+-- ---- a turn that is told keeps no transaction from its end
+
+pub told-closes : (retires : Bool) (t : ℕ) (p : CoreParts) → can_close (core_told retires t p) t ≡ can_close p t
+told-closes false t p = refl
+told-closes true t p = by_open (is_open p t)
+  where
+    by_open : (b : Bool) → can_close (told_as b t p) t ≡ can_close p t
     by_open true = refl
     by_open false = refl
 
