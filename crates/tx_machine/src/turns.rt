@@ -2,6 +2,7 @@
 ghost use Rattle.std.specs.Prelude.{◌≡◌, ◌<◌, Some, length, slice_get, IfOk, IfSome, OnOk, OnErr, OnSome};
 ghost use Rattle.std.specs.Option.{option_copied, option_and_then, option_map_or};
 ghost use Rattle.inst_meaning.specs.Accesses.{IsFitting};
+ghost use Rattle.hard_frames.specs.Frames.{destination_on};
 ghost use Rattle.hard_meaning.specs.Locks.{Locks, Unlocks};
 ghost use Rattle.tx_machine.specs.Core.{CanPassIn};
 ghost use Rattle.tx_machine.specs.Meant.{IsTied};
@@ -9,13 +10,23 @@ ghost use Rattle.tx_machine.specs.Turned.{core_left, core_watched, core_request,
 
 use crate::parts::Core;
 use crate::workers::Status;
-use hard_frames::{Stop, destination_on};
+use hard_frames::Stop;
 use hard_ir::{HInst, HVal};
-use inst_meaning::{Action, Place, Request};
+use inst_meaning::{Action, Place, Request, destination};
 use ir_core::{Inst, Loc, Side, Tid, Ty};
 use process::Thread;
 use rtm_core::Got;
 use std::alloc::AllocError;
+
+// The register of a side that takes an instruction's result.
+fn destination_on(side: Side, inst: &Inst) -> Option<(Side, Loc)>
+    ensures { result ≡ destination_on side inst.now }
+{
+    match destination(inst) {
+        Some(at) => Some((side, at)),
+        None => None,
+    }
+}
 
 impl<'a> Core<'a> {
     // The program ends with this code. For want of memory nothing changes.
