@@ -6,7 +6,7 @@ pub mod Asked
 pub mod Undone
 pub mod StruckFrames
 pub mod Targets
-pub mod Standing
+pub mod Logs
 pub mod Meant
 pub mod MeantAborts
 pub mod MeantPasses
@@ -16,5 +16,7 @@ pub mod MeantTouches
 pub mod MeantAlone
 pub mod MeantActions
 pub mod MeantMatches
+pub mod MeantUpsets
+pub mod MeantResults
 pub mod Turned
 pub mod Programs
