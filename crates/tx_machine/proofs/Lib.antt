@@ -7,6 +7,7 @@ pub mod Undone
 pub mod StruckFrames
 pub mod Targets
 pub mod Logs
+pub mod Numbers
 pub mod Meant
 pub mod MeantAborts
 pub mod MeantPasses

@@ -1,14 +1,17 @@
 -- Laws of upsets as they came: what stands among them, and what has become of them.
-use Rattle.std.proofs.Common.{ℕ, zero, suc, ◌<◌, ◌≤◌, ◌≡◌, ◌∙◌, ◌+◌, ◌-◌, Bool, true, false, ◌||◌, List, [], ◌∷◌, ◌++◌, length, map, Option, Some, None, slice_get, slice_set, refl, ap, sym, arith}
+use Rattle.std.proofs.Common.{ℕ, zero, suc, ◌<◌, ◌≤◌, ◌≡◌, ◌∙◌, ◌+◌, ◌-◌, Bool, true, false, ◌||◌, List, [], ◌∷◌, ◌++◌, length, map, take, Option, Some, None, slice_get, slice_set, refl, ap, sym, subst, arith}
 use Rattle.std.specs.Prelude.{nat_lt, nat_eq}
 use Rattle.std.specs.Option.{option_map, option_map_or}
 use Rattle.std.specs.List.{list_any}
 use Rattle.std.proofs.lemmas.Bool.Decides.{nat_tests}
+use Rattle.std.proofs.lemmas.List.{length-map, map-append}
+use Rattle.std.proofs.lemmas.Option.{slice_get-map}
 use Rattle.line_sets.specs.Sets.{has}
 use Rattle.upset_model.specs.declared.records.Record.{Record}
 use Rattle.upset_model.specs.declared.records.Record.TheVariants.{Missed, Window, Hit, Undone, Stacked}
 use Rattle.hard_meaning.specs.State.{Upset, Nowhere, OnAnother, InWindow, Struck, Worker}
 use Rattle.hard_meaning.specs.Records.{stands, some_stands, hit_if, carries, records_from}
+use Rattle.tx_machine.proofs.Told.{take-front}
 use Rattle.tx_machine.specs.Log.{kept, came, record_if, records_if, is_firm, more_if, firm_in, is_struck, struck_at, hit_as, hit_at, hit_all}
 
 -- ---- what is kept
@@ -261,3 +264,38 @@ record-from ws k (Struck ∷ us) = ap (λ (rest : List Record). hit_if (list_any
 pub records-by : (ws : List Worker) (ns : List ℕ) → ((n : ℕ) → list_any (carries n) ws ≡ has ns n) → (us : List Upset)
     → records_from ws 0 us ≡ records_if (λ n. has ns n) 0 us
 records-by ws ns e us = record-from ws 0 us ∙ records-alike (λ n. list_any (carries n) ws) (λ n. has ns n) e 0 us
+
+-- ---- the log
+
+pub added-came : (rs : List Record) (r : Record) → map came (rs ++ r ∷ []) ≡ map came rs ++ came r ∷ []
+added-came rs r = map-append came rs (r ∷ [])
+
+-- what is kept of more of them is kept of the first ones
+pub front-kept : (xs ys : List Record) → map kept (map came (xs ++ ys)) ≡ xs ++ ys → map kept (map came xs) ≡ xs
+front-kept [] ys e = refl
+front-kept (x ∷ xs) ys e =
+    let head : kept (came x) ≡ x = cc in
+    let rest : map kept (map came (xs ++ ys)) ≡ xs ++ ys = cc in
+    ap (λ (r : Record). r ∷ map kept (map came xs)) head ∙ ap (λ (rest : List Record). x ∷ rest) (front-kept xs ys rest)
+
+pub more-kept : (xs : List Record) (u : Upset) → map kept (map came xs) ≡ xs → map kept (map came (xs ++ kept u ∷ [])) ≡ xs ++ kept u ∷ []
+more-kept xs u e =
+    ap (λ (us : List Upset). map kept us) (added-came xs (kept u)) ∙ map-append kept (map came xs) (came (kept u) ∷ [])
+    ∙ ap (λ (rs : List Record). rs ++ kept (came (kept u)) ∷ []) e ∙ ap (λ (v : Upset). xs ++ kept v ∷ []) (came-kept u)
+
+pub more-firm : (xs : List Record) (r : Record) → firm_in (map came (xs ++ r ∷ [])) ≡ more_if (is_firm (came r)) (firm_in (map came xs))
+more-firm xs r = ap firm_in (added-came xs r) ∙ added-firm (map came xs) (came r)
+
+pub few-kept : (rs : List Record) → firm_in (map came rs) ≤ length rs
+few-kept rs = subst (λ (n : ℕ). firm_in (map came rs) ≤ n) (length-map rs came) (few-firm (map came rs))
+
+-- one that is added and taken back leaves no trace
+pub taken-back : (xs : List Record) (r : Record) → map came xs ≡ take (length (map came (xs ++ r ∷ [])) - 1) (map came (xs ++ r ∷ []))
+taken-back xs r = sym (take-front (map came xs) (came r)) ∙ ap (λ (us : List Upset). take (length us - 1) us) (sym (added-came xs r))
+
+pub struck-kept : (rs : List Record) (k : ℕ) (o : Option Record) → slice_get rs k ≡ o → option_map_or (λ r. is_struck (came r)) o false ≡ struck_at (map came rs) k
+struck-kept rs k o e = by o ∙ sym (ap (λ (o : Option Upset). option_map_or is_struck o false) (slice_get-map came rs k ∙ ap (option_map came) e))
+  where
+    by : (o : Option Record) → option_map_or (λ r. is_struck (came r)) o false ≡ option_map_or is_struck (option_map came o) false
+    by None = refl
+    by (Some r) = refl

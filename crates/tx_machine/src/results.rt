@@ -92,7 +92,10 @@ impl<'a> Core<'a> {
         hit_carried(&self.workers, &mut records);
         let aborts = sum_aborts(&self.workers);
         let Core {
-            world, turns, stop, ..
+            world,
+            turns,
+            stop,
+            ..
         } = self;
         RunResult {
             outs: world.into_outputs(),

@@ -468,11 +468,7 @@ impl Worker {
     }
 
     // Its thread is struck. For want of memory nothing changes.
-    fn strike_thread(
-        &mut self,
-        program: &Program<'_>,
-        upset: &UpsetSpec,
-    ) -> Result<(), AllocError>
+    fn strike_thread(&mut self, program: &Program<'_>, upset: &UpsetSpec) -> Result<(), AllocError>
         ensures ok { OnOk result (self.new ≡ record self.old { thread = thread_struck program.now upset.now self.old.thread }) }
         ensures err { OnErr result (self.new ≡ self.old) }
     {
