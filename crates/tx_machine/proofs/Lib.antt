@@ -8,6 +8,7 @@ pub mod StruckFrames
 pub mod Targets
 pub mod Logs
 pub mod Numbers
+pub mod Outcomes
 pub mod Meant
 pub mod MeantAborts
 pub mod MeantPasses

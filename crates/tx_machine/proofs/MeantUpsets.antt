@@ -1,9 +1,10 @@
 -- Upsets, and aborts that are asked for, are those of the definitions.
-use Rattle.std.proofs.Common.{ℕ, zero, suc, ◌≡◌, ◌∙◌, ◌≤◌, Bool, true, false, ◌||◌, List, [], ◌∷◌, ◌++◌, length, reverse, Option, Some, None, slice_get, slice_set, refl, ap, sym, subst, arith}
+use Rattle.std.proofs.Common.{ℕ, zero, suc, ◌≡◌, ◌∙◌, ◌≤◌, ◌<◌, Bool, true, false, ◌||◌, List, [], ◌∷◌, ◌++◌, length, reverse, Option, Some, None, slice_get, slice_set, refl, ap, sym, subst, arith}
 use Rattle.std.specs.Prelude.{nat_eq}
 use Rattle.std.specs.List.{list_any}
 use Rattle.std.specs.Option.{is_some, option_map, option_map_or, option_and_then}
 use Rattle.std.proofs.lemmas.List.{reverse-append}
+use Rattle.std.proofs.lemmas.Option.{slice_get_past}
 use Rattle.std.proofs.lemmas.List.Folds.{list_any-append}
 use Rattle.ir_layout.specs.Memory.{thread_limit}
 use Rattle.line_sets.specs.Sets.{has}
@@ -17,7 +18,7 @@ use Rattle.hard_ir.specs.Hardened.{HardParts}
 use Rattle.hard_frames.specs.declared.state.Frame.{Frame}
 use Rattle.hard_frames.specs.Code.{blocks_at}
 use Rattle.elide.specs.Watches.{WatchParts}
-use Rattle.rtm_core.specs.Transactions.{Transaction}
+use Rattle.rtm_core.specs.Transactions.{Transaction, thread}
 use Rattle.tx_runtime.specs.declared.words.Mode as runtime
 use Rattle.tx_runtime.specs.declared.words.Mode.TheVariants.{Out, In, Plain}
 use Rattle.upset_model.specs.Table.{in_window_of}
@@ -30,12 +31,12 @@ use Rattle.hard_meaning.specs.Strikes.{Target, target_of, struck, window_at, is_
 use Rattle.tx_machine.specs.declared.strikes.StruckAt.{StruckAt}
 use Rattle.tx_machine.specs.Own.{OwnParts}
 use Rattle.tx_machine.specs.Joined.{mode_with, joined_one, joined, is_in}
-use Rattle.tx_machine.specs.Core.{CoreParts, with_own, core_aborted}
+use Rattle.tx_machine.specs.Core.{CoreParts, with_own, aborted_as, core_aborted}
 use Rattle.tx_machine.specs.Struck.{stack_place, place_of}
 use Rattle.tx_machine.specs.Meant.{state_of, AreTied, IsTied, StandsAt}
 use Rattle.tx_machine.specs.Upsets.{carried_if, carried, all_carried, thread_place, thread_struck, own_struck, number_if, some_standing, inside_at, window_of, core_kind, core_place, core_struck, core_upset_at, core_upset, kind_at, upset_kind}
 use Rattle.tx_machine.proofs.Logs.{records-by, some-of}
-use Rattle.tx_machine.proofs.Meant.{found, worker-is, own-meant, own-tied}
+use Rattle.tx_machine.proofs.Meant.{there-within, found, worker-is, own-meant, own-tied}
 use Rattle.tx_machine.proofs.MeantAborts.{in_mode, aborted-meant, aborted-tied}
 use Rattle.tx_machine.proofs.Targets.{target-place, target-struck}
 
@@ -273,15 +274,29 @@ module _ (upset : UpsetSpec) (ups : List Upset) (p : CoreParts) where
 
 -- ---- aborts that are asked for
 
-pub asked-meant : (p : CoreParts) (t : ℕ) (w : OwnParts) → IsTied p → slice_get p.own t ≡ Some w → (ups : List Upset)
-    → state_of (core_aborted Other t p) ups ≡ abort_in (state_of p ups) t (slice_get (state_of p ups).workers t)
-asked-meant p t w tied e ups =
-    let at = found p t w tied e in
-    aborted-meant p t w at.tx at.watch at.stands ups Other ∙ sym (ap (abort_in (state_of p ups) t) (worker-is p t w at.tx at.watch at.stands ups))
+module _ (p : CoreParts) (t : ℕ) (tied : IsTied p) where
+  pub asked-meant : t < length p.own → (ups : List Upset)
+      → state_of (core_aborted Other t p) ups ≡ abort_in (state_of p ups) t (slice_get (state_of p ups).workers t)
+  asked-meant less ups =
+      let w = there-within p.own t less in
+      let at = found p t w.one tied w.there in
+      aborted-meant p t w.one at.tx at.watch at.stands ups Other
+      ∙ sym (ap (abort_in (state_of p ups) t) (worker-is p t w.one at.tx at.watch at.stands ups))
 
-pub asked-nowhere : (p : CoreParts) (t : ℕ) → slice_get p.own t ≡ None → (ups : List Upset)
+  pub asked-tied : t < length p.own → IsTied (core_aborted Other t p)
+  asked-tied less =
+      let w = there-within p.own t less in
+      let at = found p t w.one tied w.there in
+      aborted-tied p t w.one at.tx at.watch at.stands [] Other tied
+
+pub asked-nowhere : (p : CoreParts) (t : ℕ) → length p.own ≤ t → (ups : List Upset)
     → state_of p ups ≡ abort_in (state_of p ups) t (slice_get (state_of p ups).workers t)
-asked-nowhere p t e ups = sym (ap (abort_in (state_of p ups) t) (none-joined p.own p.rtm.threads p.watches t e))
+asked-nowhere p t past ups =
+    sym (ap (abort_in (state_of p ups) t) (none-joined p.own p.rtm.threads p.watches t (slice_get_past p.own t past)))
 
-pub asked-tied : (p : CoreParts) (t : ℕ) (w : OwnParts) → IsTied p → slice_get p.own t ≡ Some w → IsTied (core_aborted Other t p)
-asked-tied p t w tied e = let at = found p t w tied e in aborted-tied p t w at.tx at.watch at.stands [] Other tied
+pub asked-stop : (p : CoreParts) (t : ℕ) → (core_aborted Other t p).stop ≡ p.stop
+asked-stop p t = by (thread p.rtm t)
+  where
+    by : (o : Option (Transaction (CallStack Frame))) → (aborted_as o Other t p).stop ≡ p.stop
+    by None = refl
+    by (Some tx) = refl

@@ -85,7 +85,7 @@ fn stop_or_bound(stop: Option<Stop>) -> Stop
 impl<'a> Core<'a> {
     /// What the run has come to. It takes no memory.
     pub(crate) fn into_result(self, log: UpsetLog) -> RunResult
-        requires { IsTied self.entry }
+        requires { IsTied self }
         ensures { result ≡ result_of (state_of self.entry log) }
     {
         let mut records = log.into_kept();

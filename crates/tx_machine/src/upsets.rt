@@ -1,5 +1,5 @@
 //! Upsets, and aborts that are asked for.
-ghost use Rattle.std.specs.Prelude.{◌≡◌, ◌∷◌, ◌++◌, [], length, slice_get, IfOk, OnOk, OnErr};
+ghost use Rattle.std.specs.Prelude.{◌≡◌, List, [], ◌∷◌, ◌++◌, length, slice_get, IfOk, OnOk, OnErr};
 ghost use Rattle.std.specs.List.{list_any};
 ghost use Rattle.hard_ir.specs.Hardened.{HardParts};
 ghost use Rattle.upset_model.specs.Table.{HoldsWindows};
@@ -211,7 +211,8 @@ pub(crate) fn abort(core: &mut Core<'_>, t: Tid)
     ensures program { core.new.program ≡ core.old.program }
     ensures stop { core.new.stop ≡ core.old.stop }
 {
-    if (t.0 as usize) < core.workers.len() {
-        core.abort(t, Status::Other);
+    if t.0 as usize >= core.workers.len() {
+        return;
     }
+    core.abort(t, Status::Other);
 }
