@@ -6,7 +6,9 @@ pub mod Asked
 pub mod Undone
 pub mod StruckFrames
 pub mod Targets
-pub mod Standing
+pub mod Logs
+pub mod Numbers
+pub mod Outcomes
 pub mod Meant
 pub mod MeantAborts
 pub mod MeantPasses
@@ -16,6 +18,8 @@ pub mod MeantTouches
 pub mod MeantAlone
 pub mod MeantActions
 pub mod MeantMatches
+pub mod MeantUpsets
+pub mod MeantResults
 pub mod Turned
 pub mod Programs
 pub mod MeantTakes

@@ -3,7 +3,7 @@
 --
 -- Choices: what a transaction kept and touched stands in memory under transactions, and what it watches and holds with lock elision. What belongs to a transaction
 -- has no meaning while none is open. A thread has aborted fewer transactions of each cause than it has begun, so no count runs over.
-use Rattle.std.specs.Prelude.{ℕ, suc, ◌≤◌, ◌+◌, ◌-◌, Bool, true, false, List, [], ◌++◌, Option, Some, None}
+use Rattle.std.specs.Prelude.{ℕ, suc, ◌≤◌, ◌<◌, ◌+◌, ◌-◌, ◌^◌, Bool, true, false, List, [], ◌++◌, Option, Some, None}
 use Rattle.ir_core.specs.declared.types.Ty.{Ty}
 use Rattle.ir_core.specs.declared.types.Loc.{Loc}
 use Rattle.ir_core.specs.declared.values.Side.{Side}
@@ -50,12 +50,13 @@ pub record OwnParts : Type 0 where
   pub struck : List ℕ
   pub hits : List ℕ
 
--- a count of aborts, and the transaction that may yet abort, are among those that were begun
+-- a count of aborts, and the transaction that may yet abort, are among those that were begun; these are so few that no sum over threads runs over
 pub record AreCounted (w : OwnParts) : Type 0 where
   pub explicit : w.aborts.explicit + at_stake w.words.mode ≤ w.begun
   pub conflict : w.aborts.conflict + at_stake w.words.mode ≤ w.begun
   pub overflow : w.aborts.overflow + at_stake w.words.mode ≤ w.begun
   pub other : w.aborts.other + at_stake w.words.mode ≤ w.begun
+  pub few : w.begun < 2 ^ 56
 
 -- ---- causes of aborts
 

@@ -7,8 +7,13 @@
 mod conflicts;
 mod creation;
 mod marks;
+mod outcome;
 mod parts;
 mod records;
+mod results;
 mod strikes;
 mod turns;
+mod upsets;
 mod workers;
+
+pub use outcome::RunResult;

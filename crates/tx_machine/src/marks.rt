@@ -1,5 +1,6 @@
 //! Numbers of upsets.
-ghost use Rattle.std.specs.Prelude.{◌≡◌, ◌∷◌, ◌++◌, [], OnOk, OnErr};
+ghost use Rattle.std.specs.Prelude.{◌≡◌, ◌∷◌, ◌++◌, ◌<◌, [], length, drop, OnOk, OnErr};
+ghost use Rattle.tx_machine.specs.Upsets.{carried_if};
 
 use std::alloc::{AllocError, Global};
 use std::marker::Model;
@@ -46,16 +47,24 @@ impl Marks {
         Ok(())
     }
 
-    /// One more that no abort undoes, where there is no transaction. For want of memory nothing changes.
-    pub(crate) fn stand(&mut self, number: u64) -> Result<(), AllocError>
-        ensures ok { OnOk result (self.new ≡ record { struck = []; hits = number ∷ self.old.hits }) }
-        ensures err { OnErr result (self.new ≡ self.old) }
+    /// The last that an abort undoes, if any, is taken back.
+    pub(crate) fn take_back(&mut self)
+        ensures { self.new ≡ record self.old { struck = drop 1 self.old.struck } }
     {
-        self.numbers.reserve(1)?;
-        self.numbers.truncate(self.standing);
-        self.numbers.push(number).unwrap();
-        self.standing += 1;
-        Ok(())
+        if self.standing < self.numbers.len() {
+            let _ = self.numbers.pop();
+        }
+    }
+
+    /// Where there is no transaction, a number that was added last is one that no abort undoes.
+    pub(crate) fn settle(&mut self, number: u64)
+        requires { 0 < length self.old.struck }
+        ensures { self.new ≡ record { struck = []; hits = number ∷ self.old.hits } }
+    {
+        let at = self.standing;
+        self.numbers[at] = number;
+        self.numbers.truncate(at + 1);
+        self.standing = at + 1;
     }
 
     /// The transaction commits: what struck since it began stands.
@@ -70,5 +79,16 @@ impl Marks {
         ensures { self.new ≡ record self.old { struck = [] } }
     {
         self.numbers.truncate(self.standing);
+    }
+
+    /// Those that stand, in the order in which they came: inside a transaction also those that it forgets when it aborts.
+    pub(crate) fn carried(&self, inside: bool) -> &[u64]
+        ensures { result.now ≡ carried_if inside self.now }
+    {
+        if inside {
+            self.numbers.as_slice()
+        } else {
+            &self.numbers[..self.standing]
+        }
     }
 }

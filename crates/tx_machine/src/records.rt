@@ -1,59 +1,76 @@
-//! Records of upsets.
-ghost use Rattle.std.specs.Prelude.{◌≡◌, ◌∷◌, ◌++◌, ◌+◌, ◌≤◌, ◌<◌, ◌^◌, [], length, OnOk, OnErr};
-ghost use Rattle.hard_meaning.specs.Records.{stands, some_stands};
-ghost use Rattle.tx_machine.specs.Log.{more_if, is_hit, undone_as, once_undone};
+//! Upsets as they came.
+ghost use Rattle.std.specs.Prelude.{◌≡◌, ◌∷◌, ◌++◌, ◌+◌, ◌-◌, ◌≤◌, ◌<◌, ◌^◌, [], length, map, take, OnOk, OnErr};
+ghost use Rattle.std.specs.List.{list_any};
+ghost use Rattle.tx_machine.specs.Log.{kind_as, came, kept, is_firm, is_struck, more_if, struck_at};
 
-use ir_core::Seq;
 use std::alloc::{AllocError, Global};
 use std::marker::Model;
-use upset_model::{Record, Records};
+use upset_model::Record;
 
-/// What has become of the upsets so far, in order. Contracts see the list.
+/// How an upset comes.
+#[derive(Clone, Copy, PartialEq, Eq)]
+pub(crate) enum Kind {
+    /// It strikes nothing.
+    Nowhere,
+    /// It strikes while an earlier one stands.
+    OnAnother,
+    /// It strikes in a window.
+    InWindow,
+    /// It strikes.
+    Struck,
+}
+
+/// The upsets so far, in order, as they came, and how many of them stand whatever is aborted. One that struck is kept as the record of one that
+/// is undone, until it is known which numbers threads carry at the end. Contracts see the list of upsets.
 #[derive(Drop)]
 pub(crate) struct UpsetLog {
     records: Vec<Record>,
-    standing: usize,
+    firm: usize,
 }
 
 impl Model for UpsetLog {
-    ghost use Rattle.std.specs.Prelude.{List, ◌≡◌};
-    ghost use Rattle.upset_model.specs.declared.records.Record.{Record};
-    ghost use Rattle.tx_machine.specs.Log.{standing_in};
+    ghost use Rattle.std.specs.Prelude.{List, ◌≡◌, map};
+    ghost use Rattle.hard_meaning.specs.State.{Upset};
+    ghost use Rattle.tx_machine.specs.Log.{came, kept, firm_in};
 
-    ghost Value = { List Record };
+    ghost Value = { List Upset };
 
-    ghost view = { λ l. l.records.items };
+    ghost view = { λ l. map came l.records.items };
 
-    ghost invariant = { λ l. l.standing ≡ standing_in l.records.items };
+    ghost invariant = { λ l. (l.firm ≡ firm_in (map came l.records.items)) × (map kept (map came l.records.items) ≡ l.records.items) };
 }
 
-// Whether an upset stands.
-fn stands(latest: Record) -> bool
-    ensures { result ≡ stands latest }
-{
-    match latest {
-        Record::Window | Record::Hit | Record::Stacked => true,
-        Record::Missed | Record::Undone => false,
+impl Kind {
+    // What is kept of an upset.
+    fn record(self) -> Record
+        ensures { result ≡ kept (kind_as self) }
+    {
+        match self {
+            Kind::Nowhere => Record::Missed,
+            Kind::OnAnother => Record::Stacked,
+            Kind::InWindow => Record::Window,
+            Kind::Struck => Record::Undone,
+        }
     }
 }
 
-// Whether an upset struck and isn't undone.
-fn is_hit(latest: Record) -> bool
-    ensures { result ≡ is_hit latest }
+// Whether an upset stands whatever is aborted, by what is kept of it.
+fn is_firm(latest: Record) -> bool
+    ensures { result ≡ is_firm (came latest) }
 {
     match latest {
-        Record::Hit => true,
-        Record::Missed | Record::Window | Record::Undone | Record::Stacked => false,
+        Record::Window | Record::Stacked => true,
+        Record::Missed | Record::Hit | Record::Undone => false,
     }
 }
 
-// What an upset is once it is undone.
-fn undone(latest: Record) -> Record
-    ensures { result ≡ undone_as latest }
+// Whether an upset struck.
+fn is_struck(latest: Record) -> bool
+    ensures { result ≡ is_struck (came latest) }
 {
     match latest {
-        Record::Hit => Record::Undone,
-        Record::Missed | Record::Window | Record::Undone | Record::Stacked => latest,
+        Record::Hit | Record::Undone => true,
+        Record::Missed | Record::Window | Record::Stacked => false,
     }
 }
 
@@ -80,7 +97,7 @@ impl UpsetLog {
     {
         UpsetLog {
             records: Vec::new(alloc),
-            standing: 0,
+            firm: 0,
         }
     }
 
@@ -91,40 +108,48 @@ impl UpsetLog {
         self.records.len()
     }
 
-    /// Whether some stand.
-    pub(crate) fn some_stands(&self) -> bool
-        ensures { result ≡ some_stands self.now }
+    /// Whether some stand whatever is aborted.
+    pub(crate) fn some_firm(&self) -> bool
+        ensures { result ≡ list_any is_firm self.now }
     {
-        self.standing > 0
+        self.firm > 0
+    }
+
+    /// Whether the upset with a number struck.
+    pub(crate) fn has_struck(&self, number: u64) -> bool
+        ensures { result ≡ struck_at self.now number }
+    {
+        match self.records.get(number as usize) {
+            Some(latest) => is_struck(*latest),
+            None => false,
+        }
     }
 
     /// One more. For want of memory nothing changes.
-    pub(crate) fn add(&mut self, latest: Record) -> Result<(), AllocError>
-        ensures ok { OnOk result (self.new ≡ self.old ++ latest ∷ []) }
+    pub(crate) fn add(&mut self, kind: Kind) -> Result<(), AllocError>
+        ensures ok { OnOk result (self.new ≡ self.old ++ kind_as kind ∷ []) }
         ensures err { OnErr result (self.new ≡ self.old) }
     {
+        let latest = kind.record();
         self.records.push(latest)?;
-        self.standing = count_if(stands(latest), self.standing);
+        self.firm = count_if(is_firm(latest), self.firm);
         Ok(())
     }
 
-    /// The upset with a number is undone, if it is a hit.
-    pub(crate) fn undo(&mut self, number: usize)
-        ensures { self.new ≡ once_undone number self.old }
+    /// The last, if any, is taken back.
+    pub(crate) fn take_back(&mut self)
+        ensures { self.new ≡ take (length self.old - 1) self.old }
     {
-        if number >= self.records.len() {
-            return;
+        if let Some(latest) = self.records.pop() {
+            self.firm = less_if(is_firm(latest), self.firm);
         }
-        let was = self.records[number];
-        self.records[number] = undone(was);
-        self.standing = less_if(is_hit(was), self.standing);
     }
 
-    /// They as a list. It takes no memory.
-    pub(crate) fn into_records(self) -> Records
-        ensures { result ≡ self }
+    /// What is kept of them. It takes no memory.
+    pub(crate) fn into_kept(self) -> Vec<Record>
+        ensures { result.items ≡ map kept self }
     {
         let UpsetLog { records, .. } = self;
-        Seq::from_vec(records)
+        records
     }
 }

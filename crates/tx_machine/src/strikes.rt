@@ -96,20 +96,18 @@ fn find(
     }
 }
 
-// Strikes a frame: where, if anywhere. For want of memory nothing changes.
-fn strike_frame(
+// Where an upset strikes a frame, if anywhere.
+fn place_in_frame(
     program: &Program<'_>,
     upset: &UpsetSpec,
     frame: &mut Frame,
 ) -> Result<Option<StruckAt>, AllocError>
     ensures place { IfOk result (λ place. place ≡ struck_place program.now upset.now frame.old) }
-    ensures ok { OnOk result (frame.new ≡ once_struck upset.now (found_in program.now upset.now frame.old) frame.old) }
-    ensures err { OnErr result (frame.new ≡ frame.old) }
+    ensures same { frame.new ≡ frame.old }
 {
-    let Some((loc, word)) = find(program, upset, frame)? else {
+    let Some((loc, _)) = find(program, upset, frame)? else {
         return Ok(None);
     };
-    frame.give(Some((upset.side, loc)), word)?;
     Ok(Some(StruckAt {
         function: frame.function,
         block: frame.block,
@@ -121,8 +119,8 @@ fn strike_frame(
     }))
 }
 
-// Strikes a frame that waits.
-fn strike_caller(
+// Where it strikes a frame that waits.
+fn place_in_caller(
     program: &Program<'_>,
     upset: &UpsetSpec,
     stack: &mut CallStack<Frame>,
@@ -131,6 +129,57 @@ fn strike_caller(
     requires depth { depth + 1 ≡ upset.now.depth }
     requires there { depth < length stack.old.callers }
     ensures place { IfOk result (λ place. place ≡ stack_place program.now upset.now stack.old) }
+    ensures same { stack.new ≡ stack.old }
+{
+    stack.callers.swap(depth, &mut stack.frame);
+    let place = place_in_frame(program, upset, &mut stack.frame);
+    stack.callers.swap(depth, &mut stack.frame);
+    place
+}
+
+/// Where an upset strikes a stack's frame, if anywhere.
+pub(crate) fn place_in_stack(
+    program: &Program<'_>,
+    upset: &UpsetSpec,
+    stack: &mut CallStack<Frame>,
+) -> Result<Option<StruckAt>, AllocError>
+    ensures place { IfOk result (λ place. place ≡ stack_place program.now upset.now stack.old) }
+    ensures same { stack.new ≡ stack.old }
+{
+    let depth = upset.depth as usize;
+    if depth == 0 {
+        return place_in_frame(program, upset, &mut stack.frame);
+    }
+    if depth > stack.callers.len() {
+        return Ok(None);
+    }
+    place_in_caller(program, upset, stack, depth - 1)
+}
+
+// Strikes a frame. For want of memory nothing changes.
+fn strike_frame(
+    program: &Program<'_>,
+    upset: &UpsetSpec,
+    frame: &mut Frame,
+) -> Result<(), AllocError>
+    ensures ok { OnOk result (frame.new ≡ once_struck upset.now (found_in program.now upset.now frame.old) frame.old) }
+    ensures err { OnErr result (frame.new ≡ frame.old) }
+{
+    if let Some((loc, word)) = find(program, upset, frame)? {
+        frame.give(Some((upset.side, loc)), word)?;
+    }
+    Ok(())
+}
+
+// Strikes a frame that waits.
+fn strike_caller(
+    program: &Program<'_>,
+    upset: &UpsetSpec,
+    stack: &mut CallStack<Frame>,
+    depth: usize,
+) -> Result<(), AllocError>
+    requires depth { depth + 1 ≡ upset.now.depth }
+    requires there { depth < length stack.old.callers }
     ensures ok { OnOk result (stack.new ≡ stack_struck program.now upset.now stack.old) }
     ensures err { OnErr result (stack.new ≡ stack.old) }
 {
@@ -140,13 +189,12 @@ fn strike_caller(
     struck
 }
 
-/// Strikes a thread's frame: where, if anywhere. For want of memory nothing changes.
+/// Strikes a stack's frame. For want of memory nothing changes.
 pub(crate) fn strike_stack(
     program: &Program<'_>,
     upset: &UpsetSpec,
     stack: &mut CallStack<Frame>,
-) -> Result<Option<StruckAt>, AllocError>
-    ensures place { IfOk result (λ place. place ≡ stack_place program.now upset.now stack.old) }
+) -> Result<(), AllocError>
     ensures ok { OnOk result (stack.new ≡ stack_struck program.now upset.now stack.old) }
     ensures err { OnErr result (stack.new ≡ stack.old) }
 {
@@ -155,7 +203,7 @@ pub(crate) fn strike_stack(
         return strike_frame(program, upset, &mut stack.frame);
     }
     if depth > stack.callers.len() {
-        return Ok(None);
+        return Ok(());
     }
     strike_caller(program, upset, stack, depth - 1)
 }

@@ -1,5 +1,5 @@
 //! Threads, each with what an abort of it changes.
-ghost use Rattle.std.specs.Prelude.{◌≡◌, ◌+◌, ◌<◌, ◌^◌, None, IfOk, IfSome, OnOk, OnErr, OnSome};
+ghost use Rattle.std.specs.Prelude.{◌≡◌, ◌+◌, ◌<◌, ◌^◌, None, Some, length, IfOk, IfSome, OnOk, OnErr, OnSome};
 ghost use Rattle.std.specs.Option.{is_some};
 ghost use Rattle.inst_meaning.specs.Registers.{get};
 ghost use Rattle.process.specs.Outcome.{touch_of};
@@ -10,17 +10,24 @@ ghost use Rattle.process.specs.declared.state.Thread.TheVariants.{Ended};
 ghost use Rattle.inst_meaning.specs.Accesses.{IsFitting};
 ghost use Rattle.inst_meaning.specs.Operands.{memory_width};
 ghost use Rattle.tx_machine.specs.Turned.{has_ended, sought_as, sought_in, action_in};
+ghost use Rattle.tx_machine.specs.Joined.{is_in};
+ghost use Rattle.tx_machine.specs.Upsets.{carried, thread_place, thread_struck, settled_in, own_struck};
 ghost use Rattle.tx_machine.specs.Own.{meant, new_own, once_passed, kept_thread, once_begun, once_ticked, once_ended, once_committed, once_pending, once_unpending, compared_words, compared_in, once_copied, copied_in, copied_thread, failure_in, moved_thread, reply_in, world_in, asked_thread, called_thread, once_undone};
 
 use crate::marks::Marks;
+use crate::strikes::{StruckAt, place_in_stack, strike_stack};
 use hard_frames::{Aborts, Frame, Program, Words as Room};
 use hard_ir::{HVal, register_bits};
 use inst_meaning::{Action, Cause, Place, Reply, Request, World, memory_width, size_of_width};
 use ir_core::{Inst, Loc, Side, Tid, Ty, Width};
 use process::{CallStack, Code, Local, Thread};
+use sched_file::UpsetSpec;
 use std::alloc::{AllocError, Global};
 use std::marker::Model;
 use tx_runtime::{Act, Mode, Words};
+
+// So many transactions a thread begins at most, so that no sum of counts over all threads runs over.
+const MOST_BEGUN: u64 = (1 << 56) - 1;
 
 /// Why a transaction is aborted.
 #[derive(Clone, Copy, PartialEq, Eq)]
@@ -182,16 +189,16 @@ impl Worker {
     }
 
     /// Passes a `begin`. Where that begins a transaction, the frames as they stood before are given. For want of memory nothing changes;
-    /// 2^64 transactions are past all memory.
+    /// 2^56 transactions are past all time.
     pub(crate) fn begin(&mut self) -> Result<Option<CallStack<Frame>>, AllocError>
         requires { CanPass (λ frame. frame.index + 1 < 2 ^ 64) self.old.thread }
         ensures kept { IfOk result (λ kept. kept ≡ kept_thread self.old.thread self.old) }
         ensures ok { OnOk result (self.new ≡ once_begun self.old) }
         ensures err { OnErr result (self.new ≡ self.old) }
     {
-        let Some(begun) = self.begun.checked_add(1) else {
+        if self.begun >= MOST_BEGUN {
             return Err(AllocError);
-        };
+        }
         let Thread::Running(stack) = &mut self.thread else {
             return Ok(None);
         };
@@ -199,7 +206,7 @@ impl Worker {
         stack.frame.index += 1;
         match self.words.begin() {
             Act::Xbegin => {
-                self.begun = begun;
+                self.begun += 1;
                 self.pending = 0;
                 self.marks.forget();
                 Ok(Some(kept))
@@ -425,6 +432,95 @@ impl Worker {
             Status::Conflict => self.aborts.conflict += 1,
             Status::Overflow => self.aborts.overflow += 1,
             Status::Other => self.aborts.other += 1,
+        }
+    }
+
+    // Whether it is inside a transaction, as the runtime says.
+    pub(crate) fn is_inside(&self) -> bool
+        ensures { result ≡ is_in self.now.words.mode }
+    {
+        match self.words.mode() {
+            Mode::In => true,
+            Mode::Out | Mode::Plain => false,
+        }
+    }
+
+    /// The numbers of the upsets that stand in it, in the order in which they came.
+    pub(crate) fn carried(&self) -> &[u64]
+        ensures { result.now ≡ carried self.now }
+    {
+        self.marks.carried(self.is_inside())
+    }
+
+    /// Where an upset strikes it, if anywhere.
+    pub(crate) fn place_of(
+        &mut self,
+        program: &Program<'_>,
+        upset: &UpsetSpec,
+    ) -> Result<Option<StruckAt>, AllocError>
+        ensures place { IfOk result (λ place. place ≡ thread_place program.now upset.now self.old.thread) }
+        ensures unchanged { self.new ≡ self.old }
+    {
+        match &mut self.thread {
+            Thread::Running(stack) => place_in_stack(program, upset, stack),
+            Thread::Exiting(_) | Thread::Ended => Ok(None),
+        }
+    }
+
+    // Its thread is struck. For want of memory nothing changes.
+    fn strike_thread(&mut self, program: &Program<'_>, upset: &UpsetSpec) -> Result<(), AllocError>
+        ensures ok { OnOk result (self.new ≡ record self.old { thread = thread_struck program.now upset.now self.old.thread }) }
+        ensures err { OnErr result (self.new ≡ self.old) }
+    {
+        match &mut self.thread {
+            Thread::Running(stack) => strike_stack(program, upset, stack),
+            Thread::Exiting(_) | Thread::Ended => Ok(()),
+        }
+    }
+
+    // Outside, the number that was added last is one that no abort undoes.
+    fn settle(&mut self, number: u64)
+        requires { 0 < length self.old.struck }
+        ensures { self.new ≡ settled_in self.old.words.mode number self.old }
+    {
+        match self.words.mode() {
+            Mode::In => {}
+            Mode::Out | Mode::Plain => self.marks.settle(number),
+        }
+    }
+
+    // Its thread is struck, and it carries the upset's number. For want of memory nothing changes.
+    fn strike_counted(
+        &mut self,
+        program: &Program<'_>,
+        upset: &UpsetSpec,
+        number: u64,
+    ) -> Result<(), AllocError>
+        ensures ok { OnOk result (self.new ≡ own_struck program.now upset.now (Some number) self.old) }
+        ensures err { OnErr result (self.new ≡ self.old) }
+    {
+        self.marks.strike(number)?;
+        if let Err(e) = self.strike_thread(program, upset) {
+            self.marks.take_back();
+            return Err(e);
+        }
+        self.settle(number);
+        Ok(())
+    }
+
+    /// Its thread is struck by an upset, and it carries its number where one is given. For want of memory nothing changes.
+    pub(crate) fn strike(
+        &mut self,
+        program: &Program<'_>,
+        upset: &UpsetSpec,
+        number: Option<u64>,
+    ) -> Result<(), AllocError>
+        ensures ok { OnOk result (self.new ≡ own_struck program.now upset.now number self.old) }
+        ensures err { OnErr result (self.new ≡ self.old) }
+    {
+        match number {
+            Some(number) => self.strike_counted(program, upset, number),
+            None => self.strike_thread(program, upset),
         }
     }
 }
