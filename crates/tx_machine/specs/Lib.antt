@@ -5,5 +5,6 @@ pub mod Core
 pub mod Resolved
 pub mod Struck
 pub mod Log
+pub mod Machined
 pub mod Meant
 pub mod Turned

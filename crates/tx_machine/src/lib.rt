@@ -6,9 +6,16 @@
 
 mod conflicts;
 mod creation;
+mod machine;
 mod marks;
+mod outcome;
 mod parts;
 mod records;
 mod strikes;
 mod turns;
 mod workers;
+
+pub use hard_frames::{Aborts, Stop};
+pub use machine::{Flow, Machine};
+pub use outcome::RunResult;
+pub use upset_model::{Record, Records};
