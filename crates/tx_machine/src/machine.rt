@@ -34,7 +34,7 @@ impl<'a> Model for Machine<'a> {
 
     ghost coded = { Prim.hlevel (codes, ty.the_row.coded, init.the_row.coded) };
 
-    ghost view = { λ m. record { program = m.program; state = opening m.program [] } };
+    ghost view = { λ m. record { program = m.program.now; state = opening m.program.now [] } };
 }
 
 /// Whether a machine goes on.
