@@ -77,7 +77,8 @@ asked() {
 #
 # A group is a file of programs/. Its first lines say what it is about; behind them each module has a line `== NAME`, its own lines,
 # and lines that ask for reports: `-- SCHEDULE => REPORT` for `src`, `-- run SCHEDULE => REPORT` for `run`, where ` | ` stands between
-# two lines of a schedule or of a report. Reports were worked out by hand, from the rules.
+# two lines of a schedule or of a report. Reports follow from the rules: they were worked out by hand, and those of `run` also by a second
+# program that was written from the rules. None was taken from the program that is tested.
 all_told() {
     local line name='' count=0 failed=0 ask
     while IFS= read -r line; do

@@ -189,7 +189,7 @@ def no_result(op, flag, w, a, b):
     cause = binary(op, w, a, b, **{flag: True} if flag else {})
     line = f"%r = {op.lower()} {flag + ' ' if flag else ''}i{w} {a}, {b}"
     traps = binary(op, w, a, b) in UNDEFINED
-    hardened = ["aborts 0 0 0 0"] + (["stop trap 0 main/0/0", "src"] if traps else ["stop end 0", "src 0*3"])
+    hardened = ["aborts 0 0 0 3", "stop trap 0 main/0/2", "src"] if traps else ["aborts 0 0 0 0", "stop end 0", "src 0*3"]
     asked = [("turn 0 9", ["stop undefined 0 0 " + UNDEFINED[cause], "src"]), ("run turn 0 9", hardened)]
     program(line, [line], asked)
 

@@ -116,11 +116,11 @@ text_is() {
     if [ "$1" = read ]; then is_read; else answered 1 "refused text $1"; fi
 }
 
-# schedule_is WANTED: the schedule fits, or this is its first unfit line. One with an upset fits, though `run` knows none yet.
+# schedule_is WANTED: the schedule fits, or this is its first unfit line.
 schedule_is() {
     answer run module.ll text
     case $1 in
-        fits) [ "$status" -eq 0 ] || answered 1 "refused unbuilt second" ;;
+        fits) [ "$status" -eq 0 ] ;;
         *) answered 1 "refused schedule $1" ;;
     esac
 }

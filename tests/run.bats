@@ -1,9 +1,7 @@
 #!/usr/bin/env bats
 # Tests of `run F S`: what runs of hardened programs come to, as a user meets it. The modules and schedules stand in programs/
-# (answers.bash); turns are counted by the images of their instructions, and a place's index too.
-#
-# No run here stops with `stop fail`: the two sides of a program that nothing has struck are alike, and a schedule with an upset is
-# refused as long as runs know none. What undefined actions come to is here, with their places.
+# (answers.bash); turns are counted by the images of their instructions, and a place's index too. What is struck is in upsets.txt, and how
+# transactions come to an end in transactions.txt.
 #
 # The program is crates/haft/out/haft, or $HAFT.
 
@@ -40,6 +38,29 @@ seconds=60
     all_told images
 }
 
+@test "transactions: commits, aborts, retries, cuts, and locks that are watched" {
+    all_told transactions
+}
+
+@test "upsets: missed, in a window, undone, standing, and one while another stands" {
+    all_told upsets
+}
+
+# stores COUNT writes a main that stores to so many cache lines, one after the other.
+stores() {
+    echo "@g = global [$1 x [8 x i64]] zeroinitializer"
+    echo 'define i32 @main() {'
+    seq -f "  store i64 1, ptr getelementptr ([$1 x [8 x i64]], ptr @g, i64 0, i64 %.0f, i64 0)" 0 "$(($1 - 1))"
+    printf '  ret i32 0\n}\n'
+}
+
+@test "a transaction writes to 512 lines; one more overflows it, three times, and then the stores are done outside" {
+    stores 512 >module.ll
+    told "turn 0 10000" "aborts 0 0 0 0 | stop end 0 | src 0*514"
+    stores 513 >module.ll
+    told "turn 0 10000" "aborts 0 0 3 0 | stop end 0 | src 0*515"
+}
+
 @test "an example with threads gives out the same under each of its schedules" {
     local schedule count=0
     for schedule in "$tests"/../examples/tally.*.sched; do
@@ -63,20 +84,21 @@ seconds=60
     answered 2
 }
 
-@test "a schedule with an upset is refused, behind the module and the schedule's own text" {
+@test "a schedule with an upset is refused only for the module, or for a line of its own that is unfit" {
     echo 'upset 0 0 m.a 1' >schedule
     printf 'define i32 @main() {\n  ret i64 0\n}\n' >module.ll
     answer run module.ll schedule
     answered 1 "refused module TypeMismatch main/0/0"
     answer run "$tests/../examples/counter.ll" schedule
-    answered 1 "refused unbuilt second"
+    answered 0 "upset 1 missed" "aborts 0 0 0 0" "stop bound" "src"
     printf 'upset 0 0 m.a 1\nturn 64 1\n' >schedule
     answer run "$tests/../examples/counter.ll" schedule
     answered 1 "refused schedule 2"
 }
 
-# A round takes six turns. 4,194,304 turns are one, 699,050 whole rounds, and three turns of another: a sum and the master of its comparison.
-greatest="aborts 0 0 0 0 | stop bound | src 0*$((1 + 3 * 699050 + 1))"
+# Four turns lead to the loop, and a round takes nine, which count as much work. At the head of the loop the transaction is cut once it has
+# counted 1,000: first behind 111 rounds, and then behind each 112 more. 4,194,304 turns have 466,033 rounds.
+greatest="aborts 0 0 0 0 | stop bound | src 0*$((1 + 3 * (111 + 112 * ((466033 - 111) / 112))))"
 
 @test "the greatest schedule" {
     loop >module.ll
@@ -122,24 +144,24 @@ LL
 @test "the greatest schedule of 64 threads, turn by turn, in 200 MiB of memory" {
     counting >module.ll
     memory=$((200 * 1024))
-    echo "turn 0 505" >schedule
-    echo "round 64 65528" >>schedule
+    echo "turn 0 888" >schedule
+    echo "round 64 65522" >>schedule
     answer run module.ll schedule
     [ "$status" -eq 0 ]
     [ "$(head -2 written)" = $'aborts 0 0 0 0\nstop bound' ]
-    # `main` took 1 + 63 * 4 steps. A thread took one turn for its parameter and one for its first branch, and 65,526 in rounds of
-    # three, of which two are steps.
-    [ "$(tail -1 written | tr ' ' '\n' | awk -F'*' '/[*]/ { sum[$1] += $2 } END { print sum[0], sum[1], sum[63] }')" = "253 43685 43685" ]
+    # `main` took 1 + 63 * 4 steps, and waits. A thread took five turns to its loop, where a round takes six, of which two are steps; its
+    # transaction is cut behind 166 rounds, and then behind each 167 more, 64 times.
+    [ "$(tail -1 written | tr ' ' '\n' | awk -F'*' '/[*]/ { sum[$1] += $2 } END { print sum[0], sum[1], sum[63] }')" = "253 $((1 + 2 * (166 + 167 * 64))) $((1 + 2 * (166 + 167 * 64)))" ]
 }
 
 @test "where memory is short the answer is status 5 with nothing written" {
     loop >module.ll
-    echo "turn 0 1000" >schedule
+    echo "turn 0 2000" >schedule
     for mebibytes in 3 4 5 6 7 8 12 16 32; do
         echo "$mebibytes MiB"
         memory=$((mebibytes * 1024))
         answer run module.ll schedule
-        [ "$status" -ne 0 ] || answered 0 "aborts 0 0 0 0" "stop bound" "src 0*500"
+        [ "$status" -ne 0 ] || answered 0 "aborts 0 0 0 0" "stop bound" "src 0*334"
         [ "$status" -eq 0 ] || [ ! -s written ]
     done
 }

@@ -156,17 +156,19 @@ all_cases() {
 @test "a text of 4 MiB with 65,000 sums runs to its end within 20 seconds" {
     sums 65000 >first
     [ "$(size_of first)" -eq $greatest_size ]
-    # two turns for each sum, the check, the output, the return, the exit
-    echo "turn 0 $((2 * 65000 + 4))" >second
+    # two turns that begin a transaction, two for each sum, five for the output (a tick, a check, the end of the transaction, the call, the
+    # begin of another), and three for the return (a tick, the return, the exit)
+    echo "turn 0 $((2 + 2 * 65000 + 5 + 3))" >second
     answer run first second
     answered 0 "out 65000" "aborts 0 0 0 0" "stop end 9" "src 0*65003"
 }
 
 @test "one turn fewer than a text of 4 MiB needs stops before its exit" {
     sums 65000 >first
-    echo "turn 0 $((2 * 65000 + 3))" >second
+    echo "turn 0 $((2 + 2 * 65000 + 5 + 2))" >second
     answer run first second
-    answered 0 "out 65000" "aborts 0 0 0 0" "stop bound" "src 0*65002"
+    # the return's transaction is still open
+    answered 0 "out 65000" "aborts 0 0 0 0" "stop bound" "src 0*65001"
 }
 
 @test "a text of 4 MiB with a fault in its last line is refused within 20 seconds" {
@@ -181,7 +183,8 @@ all_cases() {
 @test "a text of nearly 4 MiB with 161,000 outputs writes them all within 20 seconds" {
     constants 161000 >first
     [ "$(size_of first)" -le $greatest_size ]
-    echo "turn 0 161002" >second
+    # an output of a constant takes no check
+    echo "turn 0 $((2 + 4 * 161000 + 3))" >second
     answer run first second
     { yes "out 1" | head -n 161000; printf 'aborts 0 0 0 0\nstop end 0\nsrc 0*161002\n'; } >wanted_report
     answered_file 0 wanted_report
@@ -207,7 +210,7 @@ all_cases() {
 @test "a function with as many names as it may have runs to its end within 20 seconds" {
     # its entry has a name too
     short_sums 65535 >first
-    echo "turn 0 $((2 * 65535 + 2))" >second
+    echo "turn 0 $((2 + 2 * 65535 + 3))" >second
     answer run first second
     answered 0 "aborts 0 0 0 0" "stop end 0" "src 0*65537"
 

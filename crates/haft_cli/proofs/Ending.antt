@@ -10,11 +10,11 @@ use Rattle.ir_core.specs.Module.{ModuleParts}
 use Rattle.sched_file.specs.Schedule.{ScheduleParts}
 use Rattle.sched_file.specs.Events.{events_of}
 use Rattle.src_meaning.specs.Races.{IsGood}
-use Rattle.hard_ir.specs.Image.{check_table}
-use Rattle.hard_ir.specs.Hardened.{hardened_by}
-use Rattle.hard_simulation.specs.Meaning.{Means, Told}
-use Rattle.hard_simulation.proofs.Hardening.{hardened-is-image}
-use Rattle.hard_simulation.proofs.Simulation.{told-runs, meant-runs}
+use Rattle.hard_ir.specs.Hardened.{harden}
+use Rattle.hard_simulation.specs.Meaning.{IsFailure}
+use Rattle.tx_simulation.specs.Meaning.{AreCovered, AreGone, Means}
+use Rattle.tx_simulation.proofs.Headline.{meant, never-fails}
+use Rattle.haft_run.proofs.Images.{hardened-is-loose}
 use Rattle.haft_cli.specs.declared.command.Command.{Command}
 use Rattle.haft_cli.specs.declared.refusal.Stopped.{Stopped}
 use Rattle.haft_cli.specs.declared.refusal.Stopped.TheVariants as stopped
@@ -29,11 +29,12 @@ use Rattle.haft_cli.proofs.OneAnswer.{one_work, one_answer, work_on, answers_on}
 
 -- ---- a run
 
-pub told_of : (asked : Option Command) (left : Which → Option (List ℕ)) (m : ModuleParts) (s : ScheduleParts) → AsksRun asked left m s → Told m s.args (result_on m s)
-told_of asked left m s run = told-runs m (hardened_by check_table m) (hardened-is-image m) run.checks.accepted s.args (events_of s.lines) run.upset_free
+module _ (asked : Option Command) (left : Which → Option (List ℕ)) (m : ModuleParts) (s : ScheduleParts) (run : AsksRun asked left m s) (good : IsGood m s.args) where
+  pub meant_of : AreCovered (result_on m s).upsets → Means m s.args (result_on m s)
+  meant_of covered = meant m (harden m) s.args run.checks.accepted (hardened-is-loose m) good (events_of s.lines) covered
 
-pub meant_of : (asked : Option Command) (left : Which → Option (List ℕ)) (m : ModuleParts) (s : ScheduleParts) → AsksRun asked left m s → IsGood m s.args → Means m s.args (result_on m s)
-meant_of asked left m s run good = meant-runs m (hardened_by check_table m) (hardened-is-image m) run.checks.accepted s.args (events_of s.lines) run.upset_free good
+  pub never_fails_of : AreGone (result_on m s).upsets → IsFailure (result_on m s).stop → ⊥
+  never_fails_of gone failed = never-fails m (harden m) s.args run.checks.accepted (hardened-is-loose m) good (events_of s.lines) gone failed
 
 -- ---- known files
 

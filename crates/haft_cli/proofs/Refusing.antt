@@ -1,5 +1,5 @@
 -- The errors of the readers are refusals of their texts.
-use Rattle.std.proofs.Common.{ℕ, ◌≡◌, Bool, true, false, List, Result, Ok, Err, IfErr, IsTrue, refl, sym, subst, if◌then◌else◌}
+use Rattle.std.proofs.Common.{ℕ, ◌≡◌, List, Result, Ok, Err, IfErr, refl, sym, subst}
 use Rattle.std.specs.Prelude.{IsErrAnd}
 use Rattle.ir_core.specs.Module.{ModuleParts}
 use Rattle.ir_parse_top.specs.Text.{Text, Unfit, BadWord, BadByte}
@@ -40,12 +40,3 @@ check_refuses text m check.NoMemory read fault = tt
 pub schedule_refuses : (text : List ℕ) (error : SchedError) → ((line : ℕ) → error ≡ schedule.Refused line → UnfitLine text line) → Refuses (IsNoSchedule text) (of_schedule error)
 schedule_refuses text (schedule.Refused line) unfit = ForEntry line (unfit line refl) refl
 schedule_refuses text schedule.NoMemory unfit = tt
-
--- what an `if` gives
-pub chosen : {A : Type 0} (b : Bool) (x y : A) → IsTrue b → (if b then x else y) ≡ x
-chosen true x y e = refl
-chosen false x y e = absurd cc
-
-pub not_chosen : {A : Type 0} (b : Bool) (x y : A) → (IsTrue b → ⊥) → (if b then x else y) ≡ y
-not_chosen true x y e = absurd (e refl)
-not_chosen false x y e = refl

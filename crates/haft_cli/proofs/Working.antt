@@ -1,10 +1,8 @@
 -- What a command's own work comes to, as an answer of its row.
-use Rattle.std.proofs.Common.{ℕ, ◌≡◌, List, Result, Ok, Err, IfOk, IfErr, refl, sym, subst}
-use Rattle.std.specs.declared.alloc.Global.{Global}
-use Rattle.std.specs.declared.vec.Vec.{Vec}
+use Rattle.std.proofs.Common.{ℕ, ◌≡◌, List, refl, sym, subst}
 use Rattle.haft_cli.specs.declared.command.Command.{Command}
 use Rattle.haft_cli.specs.declared.refusal.Stopped.{Stopped}
-use Rattle.haft_cli.specs.Table.{Value, Stands, Answer, Report, Refused, row_of}
+use Rattle.haft_cli.specs.Table.{Value, Stands, Answer, Refused, row_of}
 use Rattle.haft_cli.specs.Answers.{AreUnfit, Works, Unfit, Fit}
 use Rattle.haft_cli.specs.Work.{Refuses}
 use Rattle.haft_cli.proofs.Refusing.{refuses_too}
@@ -23,13 +21,3 @@ module _ (self command : Command) (is : self ≡ command) (first second : List �
   module _ (one : Value (row_of command).first) (two : Value (row_of command).second) (stands_first : Stands (row_of command).first first one) (stands_second : Stands (row_of command).second second two) where
     pub fits_for : (answer : Answer) → (row_of command).answer one two ≡ answer → Works (row_of self) first second answer
     fits_for answer e = works_for answer (Fit one two stands_first stands_second (sym e))
-
-    pub report_for : (result : Result (Vec ℕ Global) Stopped) → IfOk result (λ text. (row_of command).answer one two ≡ Report text.items) → IfOk result (λ text. Works (row_of self) first second (Report text.items))
-    report_for (Ok text) e = fits_for (Report text.items) e
-    report_for (Err why) e = tt
-
-    pub refusal_for : (result : Result (Vec ℕ Global) Stopped) → IfErr result (Refuses (λ refusal. (row_of command).answer one two ≡ Refused refusal))
-        → IfErr result (Refuses (λ refusal. Works (row_of self) first second (Refused refusal)))
-    refusal_for (Ok text) e = tt
-    refusal_for (Err why) e =
-        refuses_too (λ refusal. (row_of command).answer one two ≡ Refused refusal) (λ refusal. Works (row_of self) first second (Refused refusal)) (λ refusal f. fits_for (Refused refusal) f) why e

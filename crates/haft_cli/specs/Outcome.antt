@@ -12,7 +12,7 @@ use Rattle.haft_cli.specs.declared.refusal.Refusal.{Refusal}
 use Rattle.haft_cli.specs.declared.top.Status.{Status}
 use Rattle.haft_cli.specs.declared.top.Status.TheVariants as status
 use Rattle.haft_cli.specs.Refusals.{line_of}
-use Rattle.haft_cli.specs.Table.{Checks, Answer, Report, Refused, Row, is_upset_free}
+use Rattle.haft_cli.specs.Table.{Checks, Answer, Report, Refused, Row}
 use Rattle.haft_cli.specs.Answers.{Answers, Decides, reads, limit}
 
 -- what the inputs show of the files: the bytes that are left of each, where they are known, and how many of its reads have failed
@@ -99,7 +99,7 @@ AreKnown row left first second = (which : Which) → Decides row first which →
 abbrev pub AreCalm : Row → List ℕ → (Which → ℕ) → (Which → ℕ) → Type 0
 AreCalm row first old new = (which : Which) → Decides row first which → Rose (old which) (new which) → ⊥
 
--- the words ask for a run, the first file holds the text of an accepted module, and the second a schedule without upsets
+-- the words ask for a run, the first file holds the text of an accepted module, and the second a schedule
 pub record AsksRun (asked : Option Command) (left : Which → Option (List ℕ)) (m : ModuleParts) (s : ScheduleParts) : Type 0 where
   pub command : asked ≡ Some Run
   pub first : List ℕ
@@ -108,4 +108,3 @@ pub record AsksRun (asked : Option Command) (left : Which → Option (List ℕ))
   pub second_known : left Second ≡ Some second
   pub checks : Checks first m
   pub schedule_read : IsSchedule second s.args s.lines
-  pub upset_free : IsTrue (is_upset_free s)

@@ -8,7 +8,7 @@ use Rattle.ir_layout.specs.declared.limits.LimitKind.TheVariants.{Globals, TypeS
 use Rattle.ir_check.specs.declared.fault.Kind.{Kind}
 use Rattle.ir_check.specs.declared.fault.Kind.TheVariants.{DuplicateName, UnknownName, Limit, BadTerminator, BadCall, TypeMismatch, NoMain, EntryHasPredecessor, PhiMismatch, UseBeforeDef}
 use Rattle.haft_cli.specs.declared.refusal.Refusal.{Refusal}
-use Rattle.haft_cli.specs.declared.refusal.Refusal.TheVariants.{Long, TextWord, TextByte, Module, Schedule, UnbuiltSecond}
+use Rattle.haft_cli.specs.declared.refusal.Refusal.TheVariants.{Long, TextWord, TextByte, Module, Schedule}
 
 -- the word of a file
 abbrev pub which_word : Which → List ℕ
@@ -60,4 +60,3 @@ line_of (TextWord line word) = text_line line (codes " ") word
 line_of (TextByte line column) = text_line line (codes " byte ") (decimal column)
 line_of (Module kind at name) = module_line kind at name
 line_of (Schedule line) = codes "refused schedule " ++ decimal line ++ codes "\n"
-line_of UnbuiltSecond = codes "refused unbuilt second\n"

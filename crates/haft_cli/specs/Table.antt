@@ -2,25 +2,23 @@
 --
 -- Choices: a row is a function of what stands in the files. When files are refused before that, and in which order, is said once for all
 -- rows (`Answers`). A command that reads no file, or another kind of text, takes a form for it.
-use Rattle.std.specs.Prelude.{ℕ, ◌≡◌, ◌++◌, List, Bool, true, false, map, codes, length, if◌then◌else◌}
-use Rattle.std.specs.List.{sum, list_all}
+use Rattle.std.specs.Prelude.{ℕ, ◌≡◌, ◌++◌, List, Bool, true, false, map, codes, length}
+use Rattle.std.specs.List.{sum}
 use Rattle.std.specs.Fmt.{decimal}
 use Rattle.ir_core.specs.Module.{ModuleParts, FuncParts}
 use Rattle.ir_parse_top.specs.Text.{Text, Unfit, BadWord, BadByte, Fault as LineFault}
 use Rattle.ir_check.specs.Faults.{Fault, IsFault, IsAccepted}
 use Rattle.sched_file.specs.Schedule.{ScheduleParts, IsSchedule, UnfitLine}
 use Rattle.sched_file.specs.Events.{events_of}
-use Rattle.hard_ir.specs.Image.{check_table}
-use Rattle.hard_ir.specs.Hardened.{hardened_by}
-use Rattle.hard_machine.specs.Runs.{run_on, is_no_upset}
-use Rattle.hard_machine.specs.declared.outcome.RunResult.{RunResult}
+use Rattle.hard_ir.specs.Hardened.{harden}
+use Rattle.hard_meaning.specs.Runs.{RunParts, run_on}
 use Rattle.haft_run.specs.Report.{report_of}
 use Rattle.haft_run.specs.SourceReport.{src_report_of}
 use Rattle.race_watch.specs.Watching.{watch_of}
 use Rattle.haft_cli.specs.declared.command.Command.{Command}
 use Rattle.haft_cli.specs.declared.command.Command.TheVariants.{Check, Run, Src}
 use Rattle.haft_cli.specs.declared.refusal.Refusal.{Refusal}
-use Rattle.haft_cli.specs.declared.refusal.Refusal.TheVariants.{TextWord, TextByte, Module, Schedule, UnbuiltSecond}
+use Rattle.haft_cli.specs.declared.refusal.Refusal.TheVariants.{TextWord, TextByte, Module, Schedule}
 
 -- ---- forms of files
 
@@ -90,13 +88,9 @@ inst_count m = sum (map insts_in m.funcs)
 abbrev pub check_report : ModuleParts → List ℕ
 check_report m = codes "accepted " ++ decimal (length m.funcs) ++ codes " " ++ decimal (block_count m) ++ codes " " ++ decimal (inst_count m) ++ codes "\n"
 
--- no event of the schedule is an upset
-abbrev pub is_upset_free : ScheduleParts → Bool
-is_upset_free s = list_all is_no_upset (events_of s.lines)
-
 -- the run of a module, hardened, on a schedule, and its report
-abbrev pub result_on : ModuleParts → ScheduleParts → RunResult
-result_on m s = run_on (hardened_by check_table m) s.args (events_of s.lines)
+abbrev pub result_on : ModuleParts → ScheduleParts → RunParts
+result_on m s = run_on (harden m) s.args (events_of s.lines)
 
 abbrev pub run_report : ModuleParts → ScheduleParts → List ℕ
 run_report m s = report_of (result_on m s)
@@ -118,11 +112,7 @@ pub record Row : Type 0 where
   pub second : Form
   pub answer : Value first → Value second → Answer
 
--- `run` has no upsets yet
-abbrev pub run_answer : ModuleParts → ScheduleParts → Answer
-run_answer m s = if is_upset_free s then Report (run_report m s) else Refused UnbuiltSecond
-
 abbrev pub row_of : Command → Row
 row_of Check = record { first = ModuleText; second = Unread; answer = λ m _. Report (check_report m) }
-row_of Run = record { first = ModuleText; second = ScheduleText; answer = λ m s. run_answer m s }
+row_of Run = record { first = ModuleText; second = ScheduleText; answer = λ m s. Report (run_report m s) }
 row_of Src = record { first = ModuleText; second = ScheduleText; answer = λ m s. Report (watch_report m s) }

@@ -38,8 +38,6 @@ pub enum Refusal {
     Schedule {
         line: u32,
     },
-    /// The schedule of the second file, for a hardened run, has an upset.
-    UnbuiltSecond,
 }
 
 /// Why a command has no report.
@@ -224,7 +222,6 @@ impl Refusal {
             Refusal::TextByte { line, col } => byte_line(alloc, *line, *col),
             Refusal::Module { kind, at, name } => { module_line(alloc, *kind, at.bytes(), name) }
             Refusal::Schedule { line } => schedule_line(alloc, *line),
-            Refusal::UnbuiltSecond => Vec::from_slice(alloc, b"refused unbuilt second\n"),
         }
     }
 }

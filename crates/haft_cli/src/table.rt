@@ -1,30 +1,25 @@
 //! The table of commands: the report of each for what its files hold.
 ghost use Rattle.std.specs.Prelude.{◌≡◌, ◌≤◌, length, IfOk, IfErr};
-ghost use Rattle.haft_cli.specs.Table.{Report, Refused, row_of, run_answer, watch_report};
+ghost use Rattle.haft_cli.specs.Table.{Report, Refused, row_of, run_report, watch_report};
 ghost use Rattle.haft_cli.specs.Answers.{limit, Works};
 ghost use Rattle.haft_cli.specs.Work.{Refuses};
 
 use crate::command::Command;
 use crate::counts::check_report;
-use crate::refusal::{Refusal, Stopped};
+use crate::refusal::Stopped;
 use crate::texts::{accepted, accepted_with_schedule};
-use haft_run::{report, run, src_report, upset_free};
+use haft_run::{report, run, src_report};
 use ir_check::Accepted;
 use race_watch::watch;
 use sched_file::Schedule;
 use std::alloc::{AllocError, Global};
 
 /// The report of a module's run, hardened, over a schedule.
-fn run_report(alloc: Global, a: &Accepted, s: &Schedule) -> Result<Vec<u8>, Stopped>
-    ensures report { IfOk result (λ text. run_answer a.now s.now ≡ Report text.items) }
-    ensures refused { IfErr result (Refuses (λ refusal. run_answer a.now s.now ≡ Refused refusal)) }
+fn run_report(alloc: Global, a: &Accepted, s: &Schedule) -> Result<Vec<u8>, AllocError>
+    ensures { IfOk result (λ text. text.items ≡ run_report a.now s.now) }
 {
-    if !upset_free(s) {
-        return Err(Stopped::Refused(Refusal::UnbuiltSecond));
-    }
     let outcome = run(alloc, a, s)?;
-    let text = report(alloc, &outcome)?;
-    Ok(text)
+    report(alloc, &outcome)
 }
 
 /// The report of a module's watch over a schedule.
@@ -55,7 +50,7 @@ impl Command {
                 let text = run_report(alloc, &a, &s);
                 drop(a);
                 drop(s);
-                text
+                Ok(text?)
             }
             Command::Src => {
                 let (a, s) = accepted_with_schedule(alloc, first, second)?;

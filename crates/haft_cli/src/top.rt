@@ -5,7 +5,8 @@ ghost use Rattle.haft_io.specs.Device.{Rose, Puts};
 ghost use Rattle.ir_core.specs.Module.{ModuleParts};
 ghost use Rattle.sched_file.specs.Schedule.{ScheduleParts};
 ghost use Rattle.src_meaning.specs.Races.{IsGood};
-ghost use Rattle.hard_simulation.specs.Meaning.{Means, Told};
+ghost use Rattle.hard_simulation.specs.Meaning.{IsFailure};
+ghost use Rattle.tx_simulation.specs.Meaning.{AreCovered, AreGone, Means};
 ghost use Rattle.haft_cli.specs.Command.{command_of};
 ghost use Rattle.haft_cli.specs.Table.{Answer, Report, row_of, result_on};
 ghost use Rattle.haft_cli.specs.Answers.{Works, Answers};
@@ -68,11 +69,11 @@ fn tell<O: Sink>(alloc: Global, out: &mut O, report: Result<Vec<u8>, Stopped>) -
 
 /// Does what the words ask for. `check F` reads the first file, which is the text of a module, and writes `accepted` and how
 /// many functions, blocks and instructions it has. `run F S` reads also the second, which is a schedule, hardens the
-/// program, runs it over the schedule and writes the report of the run. `src F S` reads the same files, runs the source
+/// program, runs it over the schedule's turns, aborts and upsets and writes the report of the run. `src F S` reads the same files, runs the source
 /// itself over the schedule's turns, up to its end, an undefined step or a race, and writes the report of that.
 ///
 /// The order is: the words; the first file, read whole; the second; the text of the module; its check; the text of the
-/// schedule; for `run` whether it has an upset; the run; the write. Where memory runs out, nothing is written.
+/// schedule; the run; the write. Where memory runs out, nothing is written.
 pub fn haft<I: Inputs, O: Sink>(
     alloc: Global,
     words: &[String],
@@ -106,13 +107,14 @@ pub fn haft<I: Inputs, O: Sink>(
         → AreCalm (row_of command) first (I.faults inputs.old) (I.faults inputs.new) → ¬ Rose (O.faults out.old) (O.faults out.new)
         → (result ≡ status_of answer) ⊎ (result ≡ Status.NoMemory) }
 
-    // The result of a run stands for the source run whose turns it tells, or the source is undefined on them.
-    ensures told { (m : ModuleParts) (s : ScheduleParts) → AsksRun (command_of (map string_bytes words.now)) (I.left inputs.old) m s
-        → result ≡ Status.Done → Told m s.args (result_on m s) }
-
-    // So it stands for a source run where the module is good.
+    // The result of a run of a good module stands for the source run whose turns it tells, unless some upset struck in a window or while an
+    // earlier one stood.
     ensures meaning { (m : ModuleParts) (s : ScheduleParts) → AsksRun (command_of (map string_bytes words.now)) (I.left inputs.old) m s
-        → result ≡ Status.Done → IsGood m s.args → Means m s.args (result_on m s) }
+        → result ≡ Status.Done → IsGood m s.args → AreCovered (result_on m s).upsets → Means m s.args (result_on m s) }
+
+    // Where nothing is left of any upset, no check fails and nothing undefined is met.
+    ensures never_fails { (m : ModuleParts) (s : ScheduleParts) → AsksRun (command_of (map string_bytes words.now)) (I.left inputs.old) m s
+        → result ≡ Status.Done → IsGood m s.args → AreGone (result_on m s).upsets → ¬ IsFailure (result_on m s).stop }
 {
     let Some(command) = command_of(words) else {
         return Status::Usage;

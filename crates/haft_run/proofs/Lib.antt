@@ -1,3 +1,2 @@
-mod Growth
 mod Happenings
-mod Upsets
+pub mod Images

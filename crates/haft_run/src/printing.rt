@@ -1,9 +1,9 @@
 //! The report of a run, as bytes.
 ghost use Rattle.std.specs.Prelude.{◌≡◌, ◌++◌, IfOk, OnOk, codes, decimal};
 ghost use Rattle.std.specs.List.{flat_map};
-ghost use Rattle.haft_run.specs.Report.{out_line, aborts_line, stop_line, run_text, source_line, report_of};
+ghost use Rattle.haft_run.specs.Report.{out_line, record_word, upset_line, upset_lines, aborts_line, stop_line, run_text, source_line, report_of};
 
-use crate::{Aborts, RunResult, Stop};
+use crate::{Aborts, Record, RunResult, Stop};
 use ir_core::{Out, Tid};
 use itoa::Buffer;
 use std::alloc::{AllocError, Global};
@@ -27,6 +27,40 @@ fn push_out(text: &mut Vec<u8>, out: Out) -> Result<(), AllocError>
     text.extend_from_slice(word)?;
     push_number(text, number)?;
     text.extend_from_slice(b"\n")
+}
+
+/// The word of what has become of an upset.
+fn record_word(latest: Record) -> &'static [u8]
+    ensures { result.now ≡ record_word latest }
+{
+    match latest {
+        Record::Missed => b"missed",
+        Record::Window => b"window",
+        Record::Hit => b"hit",
+        Record::Undone => b"undone",
+        Record::Stacked => b"stacked",
+    }
+}
+
+/// Adds the line of an upset, which is counted from 1.
+fn push_upset(text: &mut Vec<u8>, k: u64, latest: Record) -> Result<(), AllocError>
+    ensures { OnOk result (text.new.items ≡ text.old.items ++ upset_line k latest) }
+{
+    text.extend_from_slice(b"upset ")?;
+    push_number(text, k)?;
+    text.extend_from_slice(b" ")?;
+    text.extend_from_slice(record_word(latest))?;
+    text.extend_from_slice(b"\n")
+}
+
+/// Adds the lines of all upsets.
+fn push_upsets(text: &mut Vec<u8>, records: &[Record]) -> Result<(), AllocError>
+    ensures { OnOk result (text.new.items ≡ text.old.items ++ upset_lines 0 records.now) }
+{
+    for (before, latest) in records.iter().enumerate() {
+        push_upset(text, before as u64 + 1, *latest)?;
+    }
+    Ok(())
 }
 
 /// Adds the line of the counts of aborts.
@@ -107,12 +141,13 @@ pub(crate) fn push_source(text: &mut Vec<u8>, runs: &[(Tid, u64)]) -> Result<(),
     text.extend_from_slice(b"\n")
 }
 
-/// The report of a result: a line for each output, then the counts of aborts, the stop and the turns.
+/// The report of a result: a line for each output and each upset, then the counts of aborts, the stop and the turns.
 pub fn report(alloc: Global, r: &RunResult) -> Result<Vec<u8>, AllocError>
     ensures { IfOk result (λ text. text.items ≡ report_of r.now) }
 {
     let mut text = Vec::new(alloc);
     push_outs(&mut text, r.outs.items())?;
+    push_upsets(&mut text, r.upsets.items())?;
     push_aborts(&mut text, r.aborts)?;
     push_stop(&mut text, &r.stop)?;
     push_source(&mut text, r.turns.items())?;

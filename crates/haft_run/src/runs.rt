@@ -4,30 +4,38 @@ ghost use Rattle.ir_core.specs.Module.{ModuleParts};
 ghost use Rattle.ir_check.specs.Faults.{IsAccepted};
 ghost use Rattle.src_meaning.specs.Races.{IsGood};
 ghost use Rattle.sched_file.specs.Events.{events_of};
-ghost use Rattle.hard_ir.specs.Image.{check_table};
-ghost use Rattle.hard_ir.specs.Hardened.{hardened_by};
-ghost use Rattle.hard_machine.specs.Runs.{run_on};
-ghost use Rattle.hard_simulation.specs.Image.{IsImage};
-ghost use Rattle.hard_simulation.specs.Meaning.{IsUpsetFree, Means, Told};
+ghost use Rattle.hard_ir.specs.Hardened.{harden};
+ghost use Rattle.hard_ir.specs.Images.{IsLooseImage, IsNamedImage};
+ghost use Rattle.hard_meaning.specs.Runs.{run_on};
+ghost use Rattle.hard_simulation.specs.Meaning.{IsFailure, IsUpsetFree};
+ghost use Rattle.renamed_modules.specs.Numbered.{AreNumbered, HasFewNames};
+ghost use Rattle.tx_simulation.specs.Meaning.{AreCovered, AreGone, Means};
 
 use crate::{RunResult, harden};
 use hard_ir::Hardened;
-use hard_machine::Machine;
 use ir_check::Accepted;
 use sched_file::Schedule;
 use std::alloc::{AllocError, Global};
+use tx_machine::Machine;
 
-/// Runs a hardened module, with a schedule's arguments, over its events: the result is that of the hardened machine. A turn of a thread
-/// that was never made does nothing, nor does an abort, and events after the stop change nothing.
+/// Runs a hardened module, with a schedule's arguments, over its events: the result is that of the machine with transactions, lock elision
+/// and upsets. Events after the stop change nothing.
 pub fn run_hardened(alloc: Global, h: &Hardened, s: &Schedule) -> Result<RunResult, AllocError>
-    requires upset_free { IsUpsetFree (events_of s.now.lines) }
     // The result is that of the run on the events.
     ensures exact { IfOk result (λ r. r ≡ run_on h.now s.now.args (events_of s.now.lines)) }
-    // Where the hardened module is an image of an accepted one, the result stands for a run of that source, or the source is undefined on
-    // the result's turns.
-    ensures told { (m : ModuleParts) → IsAccepted m → IsImage m h.now → IfOk result (λ r. Told m s.now.args r) }
-    // So it stands for a run of a good source.
-    ensures meaning { (m : ModuleParts) → IsAccepted m → IsImage m h.now → IsGood m s.now.args → IfOk result (λ r. Means m s.now.args r) }
+    // Where the hardened module is an image of an accepted one that is good on the arguments, the result stands for the run of that source on
+    // the turns that it tells, unless some upset struck in a window or while an earlier one stood.
+    ensures meaning { (m : ModuleParts) → IsAccepted m → IsLooseImage m h.now → IsGood m s.now.args
+        → IfOk result (λ r. AreCovered r.upsets → Means m s.now.args r) }
+    // Where nothing is left of any upset, no check fails and nothing undefined is met.
+    ensures never_fails { (m : ModuleParts) → IsAccepted m → IsLooseImage m h.now → IsGood m s.now.args
+        → IfOk result (λ r. AreGone r.upsets → ¬ IsFailure r.stop) }
+    // Both hold of a schedule without upsets.
+    ensures without_upsets { (m : ModuleParts) → IsAccepted m → IsLooseImage m h.now → IsGood m s.now.args → IsUpsetFree (events_of s.now.lines)
+        → IfOk result (λ r. Means m s.now.args r × ¬ IsFailure r.stop) }
+    // Of an image by names, as a hardened text that was read is one, the result stands for its source too.
+    ensures by_names { (m : ModuleParts) → IsAccepted m → AreNumbered m → IsNamedImage m h.now → HasFewNames h.now.heads → IsGood m s.now.args
+        → IfOk result (λ r. AreCovered r.upsets → Means m s.now.args r) }
 {
     let mut machine = Machine::new(alloc, h, s.args())?;
     let mut cursor = s.cursor();
@@ -39,15 +47,18 @@ pub fn run_hardened(alloc: Global, h: &Hardened, s: &Schedule) -> Result<RunResu
 
 /// Hardens an accepted module, and runs it as `run_hardened` does.
 pub fn run(alloc: Global, a: &Accepted, s: &Schedule) -> Result<RunResult, AllocError>
-    requires upset_free { IsUpsetFree (events_of s.now.lines) }
     // The result is that of the hardened module's run on the events.
-    ensures exact { IfOk result (λ r. r ≡ run_on (hardened_by check_table a.now) s.now.args (events_of s.now.lines)) }
-    // The result stands for a run of the source, or the source is undefined on the result's turns.
-    ensures told { IfOk result (λ r. Told a.now s.now.args r) }
-    // So it stands for a run of a good module.
-    ensures meaning { IsGood a.now s.now.args → IfOk result (λ r. Means a.now s.now.args r) }
+    ensures exact { IfOk result (λ r. r ≡ run_on (harden a.now) s.now.args (events_of s.now.lines)) }
+    // The result stands for the run of a good source on the turns that it tells, unless some upset struck in a window or while an earlier one
+    // stood.
+    ensures meaning { IsGood a.now s.now.args → IfOk result (λ r. AreCovered r.upsets → Means a.now s.now.args r) }
+    // Where nothing is left of any upset, no check fails and nothing undefined is met.
+    ensures never_fails { IsGood a.now s.now.args → IfOk result (λ r. AreGone r.upsets → ¬ IsFailure r.stop) }
+    // Both hold of a schedule without upsets.
+    ensures without_upsets { IsGood a.now s.now.args → IsUpsetFree (events_of s.now.lines)
+        → IfOk result (λ r. Means a.now s.now.args r × ¬ IsFailure r.stop) }
 {
-    // Of an accepted module, `told` and `meaning` hold.
+    // It is accepted, and so its hardened module is an image of it.
     let _ = a.module();
     let hardened = harden(alloc, a)?;
     run_hardened(alloc, &hardened, s)

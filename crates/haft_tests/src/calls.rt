@@ -10,16 +10,48 @@ use haft_io::{CleanInputs, CleanSink};
 const REPORTS: &[(&str, &str)] = &[
     (TURNS, REPORT),
     ("turn 0 2\nturn 0 38\n", REPORT),
-    ("turn 0 6", REPORT),
+    ("turn 0 12", REPORT),
     ("", "aborts 0 0 0 0\nstop bound\nsrc\n"),
-    ("turn 0 5\n", "out 5\naborts 0 0 0 0\nstop bound\nsrc 0*3\n"),
+    ("turn 0 11\n", "out 5\naborts 0 0 0 0\nstop bound\nsrc 0*2\n"),
     // Threads that were never made take turns for nothing. The third form is one turn, of thread 2.
     ("turn 3 5\nturn 0 40\n", REPORT),
     ("round 3 40\n", REPORT),
     ("mix 3 0 1\n", "aborts 0 0 0 0\nstop bound\nsrc\n"),
-    ("mix 1 0 6\n", REPORT),
-    // Nothing is aborted, as there are no transactions.
-    ("# turns\nargs 7\n\n  turn 0 3\nabort 0\nturn 0 3\n", REPORT),
+    ("mix 1 0 12\n", REPORT),
+    // An abort of a thread outside a transaction does nothing, and one inside takes back its turns.
+    ("# turns\nargs 7\n\n  turn 0 7\nabort 0\nturn 0 5\n", REPORT),
+    (
+        "turn 0 4\nabort 0\nturn 0 40\n",
+        "out 5\naborts 0 0 0 1\nstop end 0\nsrc 0*4\n",
+    ),
+    // An upset inside a transaction is undone with it.
+    (
+        "turn 0 3\nupset 0 0 m.a 1\nturn 0 40\n",
+        "out 5\nupset 1 undone\naborts 1 0 0 0\nstop end 0\nsrc 0*4\n",
+    ),
+    // One that strikes nothing changes nothing.
+    (
+        "upset 63 0 m.a 1\nturn 0 12\n",
+        "out 5\nupset 1 missed\naborts 0 0 0 0\nstop end 0\nsrc 0*4\n",
+    ),
+    // Outside transactions the check fails, and in a window none does.
+    (
+        "turn 0 2\nabort 0\nturn 0 1\nabort 0\nturn 0 1\nabort 0\nturn 0 2\nupset 0 0 m.a 1\nturn 0 3\n",
+        "upset 1 hit\naborts 0 0 0 3\nstop fail 0 main/0/5\nsrc 0*1\n",
+    ),
+    (
+        "turn 0 6\nupset 0 0 m.a 1\nturn 0 40\n",
+        "out 4\nupset 1 window\naborts 0 0 0 0\nstop end 0\nsrc 0*4\n",
+    ),
+    // A second one while the first stands, and one after the other.
+    (
+        "turn 0 4\nupset 0 0 m.a 1\nupset 0 0 s.a 1\nturn 0 40\n",
+        "out 4\nupset 1 hit\nupset 2 stacked\naborts 0 0 0 0\nstop end 0\nsrc 0*4\n",
+    ),
+    (
+        "turn 0 3\nupset 0 0 m.a 1\nturn 0 5\nupset 0 0 m.a 2\nturn 0 40\n",
+        "out 5\nupset 1 undone\nupset 2 undone\naborts 2 0 0 0\nstop end 0\nsrc 0*4\n",
+    ),
 ];
 
 #[test]
@@ -63,13 +95,7 @@ const REFUSALS: &[(&str, &str, &str)] = &[
     ("", TURNS, "refused module NoMain -\n"),
     (SUM, "turn 64 1\n", "refused schedule 1\n"),
     (SUM, "turn 0 4194304\nturn 0 1\n", "refused schedule 2\n"),
-    (
-        SUM,
-        "turn 0 3\nupset 0 0 m.a 1\nturn 0 40\n",
-        "refused unbuilt second\n",
-    ),
-    // Where more than one holds, the text of the module comes first, then its check, then the text of the schedule, then
-    // whether it has an upset.
+    // Where more than one holds, the text of the module comes first, then its check, then the text of the schedule.
     ("", "turn 64 1\n", "refused module NoMain -\n"),
     (UNKNOWN_OPERATION, "turn 64 1\n", "refused text 3 fadd\n"),
     (
@@ -80,7 +106,6 @@ const REFUSALS: &[(&str, &str, &str)] = &[
     (BAD_BYTE, "turn 64 1\n", "refused text 4 byte 27\n"),
     ("", "upset 0 0 m.a 1\n", "refused module NoMain -\n"),
     (TWO_BLOCKS, "turn 64 1\n", "refused schedule 1\n"),
-    (TWO_BLOCKS, "upset 0 0 m.a 1\n", "refused unbuilt second\n"),
     (SUM, "upset 0 0 m.a 1\nturn 64 1\n", "refused schedule 2\n"),
 ];
 

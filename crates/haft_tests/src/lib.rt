@@ -13,6 +13,4 @@ mod pieces;
 #[cfg(test)]
 mod runs;
 #[cfg(test)]
-mod schedules;
-#[cfg(test)]
 mod texts;

@@ -1,6 +1,7 @@
 //! Runs of modules of one block. Expected words are worked out from the LLVM
-//! Language Reference, expected turns from the images: two hardened instructions for each operator, comparison, selection and
-//! cast, a check for each register that memory, an external or the caller gets.
+//! Language Reference, expected turns from the images: two that begin a transaction; two for each operator, comparison, selection and
+//! cast; before what leaves the block, and calls, a tick and a check for each register that it gets; and around a call the end of a
+//! transaction and the begin of another.
 use crate::runs::report_on;
 use crate::texts::SUM;
 use std::alloc::Global;
@@ -19,26 +20,26 @@ const RUNS: &[(&str, &str, &str)] = &[
         "turn 0 40",
         "out 3\naborts 0 0 0 0\nstop end 0\nsrc 0*4\n",
     ),
-    // Undefined divisions, and a shift by the width.
+    // Undefined divisions, and a shift by the width: three transactions abort, and outside of them the run stops.
     (
         "%a = udiv i64 1, 0\nret i32 0",
         "turn 0 9",
-        "aborts 0 0 0 0\nstop trap 0 main/0/0\nsrc\n",
+        "aborts 0 0 0 3\nstop trap 0 main/0/2\nsrc\n",
     ),
     (
         "%a = add i64 1, 2\ncall void @haft_out(i64 %a)\n%b = sdiv i32 -2147483648, -1\nret i32 %b",
         "turn 0 40",
-        "out 3\naborts 0 0 0 0\nstop trap 0 main/0/4\nsrc 0*2\n",
+        "out 3\naborts 0 0 0 3\nstop trap 0 main/0/9\nsrc 0*2\n",
     ),
     (
         "%a = srem i1 1, 1\nret i32 0",
         "turn 0 1\nabort 0\nturn 0 8",
-        "aborts 0 0 0 0\nstop trap 0 main/0/0\nsrc\n",
+        "aborts 0 0 0 3\nstop trap 0 main/0/2\nsrc\n",
     ),
     (
         "%a = shl i16 1, 16\nret i32 0",
         "turn 0 9",
-        "aborts 0 0 0 0\nstop trap 0 main/0/0\nsrc\n",
+        "aborts 0 0 0 3\nstop trap 0 main/0/2\nsrc\n",
     ),
     // A quotient is rounded toward zero, and a shift to the right keeps the sign.
     (
@@ -62,7 +63,7 @@ const RUNS: &[(&str, &str, &str)] = &[
         "turn 0 40",
         "out 7\nout 9\naborts 0 0 0 0\nstop end 0\nsrc 0*8\n",
     ),
-    // Casts between widths, and a register that is returned: master, shadow, a check, `ret`, the exit.
+    // Casts between widths, and a register that is returned: cut, begin, master, shadow, a tick, a check, `ret`, the exit.
     (
         "%a = trunc i64 511 to i8\n%b = zext i8 %a to i64\n%c = sext i8 %a to i64\ncall void @haft_out(i64 %b)\ncall void @haft_out(i64 %c)\nret i32 0",
         "turn 0 40",
@@ -70,13 +71,13 @@ const RUNS: &[(&str, &str, &str)] = &[
     ),
     (
         "%r = mul i32 65536, 65537\nret i32 %r",
-        "turn 0 5",
+        "turn 0 8",
         "aborts 0 0 0 0\nstop end 65536\nsrc 0*3\n",
     ),
     (
         "%r = mul i32 65536, 65537\nret i32 %r",
-        "turn 0 4",
-        "aborts 0 0 0 0\nstop bound\nsrc 0*2\n",
+        "turn 0 7",
+        "aborts 0 0 0 0\nstop bound\nsrc\n",
     ),
     (
         "%r = mul i32 65536, 65537\nret i32 %r",
@@ -99,32 +100,33 @@ const RUNS: &[(&str, &str, &str)] = &[
         "turn 0 40",
         "out 24\naborts 0 0 0 0\nstop end 0\nsrc 0*5\n",
     ),
-    // `alloca`, `mov`; check, store; check, load, `mov`; check, call; `ret`; the exit: the eleventh turn ends the program.
+    // `cut`, `begin`; `alloca`, `mov`; store, and its late check; load, load; `tick`, check, `end`, call, `begin`; `tick`, `ret`; the exit:
+    // the eighteenth turn ends the program.
     (
         "%p = alloca i64\nstore i64 7, ptr %p\n%v = load i64, ptr %p\ncall void @haft_out(i64 %v)\nret i32 0",
-        "turn 0 11",
+        "turn 0 18",
         "out 7\naborts 0 0 0 0\nstop end 0\nsrc 0*6\n",
     ),
     (
         "%p = alloca i64\nstore i64 7, ptr %p\n%v = load i64, ptr %p\ncall void @haft_out(i64 %v)\nret i32 0",
-        "turn 0 10",
-        "out 7\naborts 0 0 0 0\nstop bound\nsrc 0*5\n",
+        "turn 0 17",
+        "out 7\naborts 0 0 0 0\nstop bound\nsrc 0*4\n",
     ),
     (
         "fence seq_cst\nret i32 0",
-        "turn 0 3",
+        "turn 0 6",
         "aborts 0 0 0 0\nstop end 0\nsrc 0*3\n",
     ),
     // What is undefined outside a transaction stops the run at its place.
     (
         "%v = load i64, ptr null\nret i32 0",
         "turn 0 9",
-        "aborts 0 0 0 0\nstop trap 0 main/0/0\nsrc\n",
+        "aborts 0 0 0 3\nstop trap 0 main/0/2\nsrc\n",
     ),
     (
         "unreachable",
-        "turn 0 9",
-        "aborts 0 0 0 0\nstop trap 0 main/0/0\nsrc\n",
+        "turn 0 13",
+        "aborts 0 0 0 3\nstop trap 0 main/0/3\nsrc\n",
     ),
 ];
 
@@ -132,7 +134,7 @@ const RUNS: &[(&str, &str, &str)] = &[
 const SCHEDULES: &[(&str, &str)] = &[
     ("", "aborts 0 0 0 0\nstop bound\nsrc\n"),
     ("# nothing\n\n", "aborts 0 0 0 0\nstop bound\nsrc\n"),
-    ("turn 0 5", "out 5\naborts 0 0 0 0\nstop bound\nsrc 0*3\n"),
+    ("turn 0 11", "out 5\naborts 0 0 0 0\nstop bound\nsrc 0*2\n"),
     ("turn 0 40", "out 5\naborts 0 0 0 0\nstop end 0\nsrc 0*4\n"),
     (
         "turn 3 5\nturn 0 40",
@@ -140,15 +142,15 @@ const SCHEDULES: &[(&str, &str)] = &[
     ),
     (
         "turn 0 2\nabort 0\nabort 63\nturn 0 40",
-        "out 5\naborts 0 0 0 0\nstop end 0\nsrc 0*4\n",
+        "out 5\naborts 0 0 0 1\nstop end 0\nsrc 0*4\n",
     ),
     (
         "args 3 9\nround 3 40",
         "out 5\naborts 0 0 0 0\nstop end 0\nsrc 0*4\n",
     ),
-    ("round 3 5", "out 5\naborts 0 0 0 0\nstop bound\nsrc 0*3\n"),
+    ("round 3 11", "out 5\naborts 0 0 0 0\nstop bound\nsrc 0*2\n"),
     ("mix 3 0 1", "aborts 0 0 0 0\nstop bound\nsrc\n"),
-    ("mix 1 0 6", "out 5\naborts 0 0 0 0\nstop end 0\nsrc 0*4\n"),
+    ("mix 1 0 12", "out 5\naborts 0 0 0 0\nstop end 0\nsrc 0*4\n"),
     ("turn 63 4194304", "aborts 0 0 0 0\nstop bound\nsrc\n"),
 ];
 

@@ -1,7 +1,7 @@
 //! Runs of whole texts.
 ghost use Rattle.ir_parse_top.specs.Text.{IsOfText};
 
-use haft_run::{RunResult, harden, report, run, run_hardened, upset_free};
+use haft_run::{RunResult, harden, report, run, run_hardened};
 use ir_check::{Accepted, accept};
 use ir_core::Module;
 use ir_parse_top::parse_module;
@@ -35,11 +35,10 @@ fn accepted_of(rt: &impl Abort, alloc: Global, text: &str) -> Accepted {
     }
 }
 
-/// What a module comes to over a schedule without upsets.
+/// What a module comes to over a schedule.
 fn result_of(rt: &impl Abort, alloc: Global, a: &Accepted, schedule: &str) -> RunResult {
     assert!(rt; schedule.len() <= 4_194_304);
     let schedule = parse_schedule(alloc, schedule.as_bytes()).expect(rt, "a schedule is unfit");
-    assert!(rt; upset_free(&schedule));
     run(alloc, a, &schedule).expect(rt, "no memory to run")
 }
 
@@ -47,7 +46,6 @@ fn result_of(rt: &impl Abort, alloc: Global, a: &Accepted, schedule: &str) -> Ru
 fn hardened_result_of(rt: &impl Abort, alloc: Global, a: &Accepted, schedule: &str) -> RunResult {
     assert!(rt; schedule.len() <= 4_194_304);
     let schedule = parse_schedule(alloc, schedule.as_bytes()).expect(rt, "a schedule is unfit");
-    assert!(rt; upset_free(&schedule));
     let h = harden(alloc, a).expect(rt, "no memory to harden");
     let result = run_hardened(alloc, &h, &schedule).expect(rt, "no memory to run");
     drop(h);

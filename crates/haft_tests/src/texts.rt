@@ -4,7 +4,7 @@ use haft_io::{MemInputs, MemSink};
 use std::alloc::Global;
 use std::process::Abort;
 
-/// Gives 5 out and ends with 0: hardened in six turns, which stand for four.
+/// Gives 5 out and ends with 0: hardened in twelve turns, which stand for four.
 pub const SUM: &str =
     "declare void @haft_out(i64)\ndefine i32 @main() {\n  %a = add i64 2, 3\n  call void @haft_out(i64 %a)\n  ret i32 0\n}\n";
 

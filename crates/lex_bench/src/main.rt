@@ -1,12 +1,11 @@
 //! Benchmarks of the readers and of the passes: the program cuts each line of a file into tokens, copies the file's bytes one by one,
 //! reads the file as a module, or checks and hardens that, and prints how many tokens, bytes, instructions or hardened instructions
-//! there were. Its words are the file's name and `copy`, `module`, `check`, `harden`, `whole` or none: `harden` is what `haft run` hardens,
-//! and `whole` the whole image table. `bench/lex.sh`, `bench/parse.sh` and `bench/harden.sh` compare the times.
+//! there were. Its words are the file's name and `copy`, `module`, `check`, `harden` or none. `bench/lex.sh`, `bench/parse.sh` and
+//! `bench/harden.sh` compare the times.
 #![tactic(auto)]
 
 ghost use Rattle.std.specs.Prelude.{◌≡◌, ◌≤◌, IfOk, length};
 
-use check_insert::checks;
 use haft_io::{FileInputs, Which, read_whole};
 use haft_run::harden;
 use hard_ir::{HBlock, Hardened};
@@ -14,13 +13,9 @@ use ir_check::{Accepted, accept};
 use ir_core::Func;
 use ir_lex::{LexError, lex_line, split_line};
 use ir_parse_top::parse_module;
-use relaxed_mem::relax;
-use shadow_flow::shadow;
 use std::alloc::{AllocError, Global};
 use std::rt::{Env, Files};
 use std::{env, io};
-use tx_place::place;
-use tx_split::split;
 
 /// A text has at most this many bytes.
 const LIMIT: usize = 4_194_304;
@@ -120,25 +115,6 @@ fn hardened_count(alloc: Global, text: &[u8]) -> Option<usize>
     Some(item_count(hardened?))
 }
 
-/// The hardened module of the whole image table.
-fn whole(alloc: Global, accepted: &Accepted) -> Result<Hardened, AllocError> {
-    let flow = shadow(alloc, accepted)?;
-    let checked = checks(alloc, flow)?;
-    let relaxed = relax(alloc, checked)?;
-    let placed = place(alloc, relaxed)?;
-    split(alloc, placed)
-}
-
-/// How many hardened instructions the hardened module of the whole table has for a text; nothing where it has none.
-fn whole_count(alloc: Global, text: &[u8]) -> Option<usize>
-    requires { length text.now ≤ 4194304 }
-{
-    let accepted = accepted(alloc, text)?;
-    let hardened = whole(alloc, &accepted).ok();
-    drop(accepted);
-    Some(item_count(hardened?))
-}
-
 /// What the words ask for; nothing where a file can't be read, a line has a bad byte or memory runs out.
 fn count<'a, R: Files + AllocGlobal>(rt: &'a R, words: &'a [String]) -> Option<usize> {
     let name = words.first().map(|word| word.as_str());
@@ -149,7 +125,6 @@ fn count<'a, R: Files + AllocGlobal>(rt: &'a R, words: &'a [String]) -> Option<u
         Some(word) if word.as_str() == "module" => module_count(rt.alloc(), &text),
         Some(word) if word.as_str() == "check" => accepted_count(rt.alloc(), &text),
         Some(word) if word.as_str() == "harden" => hardened_count(rt.alloc(), &text),
-        Some(word) if word.as_str() == "whole" => whole_count(rt.alloc(), &text),
         _ => token_count(rt.alloc(), &text).ok(),
     }
 }

@@ -32,3 +32,5 @@ pub mod MeantMemory
 pub mod MeantExits
 pub mod MeantTurns
 pub mod MeantOpening
+pub mod Machined
+pub mod Events

@@ -6,5 +6,6 @@ pub mod Resolved
 pub mod Struck
 pub mod Log
 pub mod Upsets
+pub mod Machined
 pub mod Meant
 pub mod Turned

@@ -4,14 +4,18 @@ use ir_core::{Outs, Turns};
 use std::marker::Model;
 use upset_model::Records;
 
-/// What a run came to: the outputs, what has become of each upset, the aborts by cause, how it stopped, and the turns that retired an
-/// instruction of the source. Contracts see these.
+/// What a run comes to. A place is the names of function and block and the index of a hardened
+/// instruction in the block, joined by `/`.
 #[derive(Drop)]
 pub struct RunResult {
+    /// The outputs in order.
     pub outs: Outs,
+    /// What has become of the upsets, in order.
     pub upsets: Records,
+    /// How many transactions were aborted, by cause.
     pub aborts: Aborts,
     pub stop: Stop,
+    /// The turns of the source run that the run stands for.
     pub turns: Turns,
 }
 

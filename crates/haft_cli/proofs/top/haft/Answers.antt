@@ -2,7 +2,7 @@ use Rattle.std.proofs.Common.{map, string_bytes}
 use Rattle.haft_io.specs.Device.{Rose}
 use Rattle.haft_cli.specs.Command.{command_of}
 use Rattle.haft_cli.specs.Outcome.{files}
-use Rattle.haft_cli.proofs.Ending.{clauses_of, told_of, meant_of}
+use Rattle.haft_cli.proofs.Ending.{clauses_of, meant_of, never_fails_of}
 use Rattle.haft_cli.proofs.top.haft.Goals as goal
 
 pub returns-clause-read_fault : goal.returns-clause-read_fault
@@ -35,8 +35,8 @@ returns-clause-complete g c = (clauses_of (command_of (map string_bytes c.args.w
     c.tell.result (g.O.Sink.written c.args.out.now) (g.O.Sink.written c.tell.new.out) (Rose (g.O.Sink.faults c.args.out.now) (g.O.Sink.faults c.tell.new.out)) c.report-report.result
     c.in-Some.ensures c.report-report.ensures.report c.report-report.ensures.stopped c.tell.ensures.tells).complete
 
-pub returns-clause-told : goal.returns-clause-told
-returns-clause-told g c = λ m s run done. told_of (command_of (map string_bytes c.args.words.now)) (g.I.Inputs.left c.args.inputs.now) m s run
-
 pub returns-clause-meaning : goal.returns-clause-meaning
-returns-clause-meaning g c = λ m s run done good. meant_of (command_of (map string_bytes c.args.words.now)) (g.I.Inputs.left c.args.inputs.now) m s run good
+returns-clause-meaning g c = λ m s run done good covered. meant_of (command_of (map string_bytes c.args.words.now)) (g.I.Inputs.left c.args.inputs.now) m s run good covered
+
+pub returns-clause-never_fails : goal.returns-clause-never_fails
+returns-clause-never_fails g c = λ m s run done good gone failed. never_fails_of (command_of (map string_bytes c.args.words.now)) (g.I.Inputs.left c.args.inputs.now) m s run good gone failed

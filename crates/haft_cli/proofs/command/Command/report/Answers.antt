@@ -4,7 +4,7 @@ use Rattle.haft_cli.specs.Table.{Unread, ModuleText, IsNoModule, Report, Refused
 use Rattle.haft_cli.specs.Answers.{AreUnfit, InFirst, Works}
 use Rattle.haft_cli.specs.Work.{Refuses}
 use Rattle.haft_cli.proofs.Refusing.{because, refuses_too}
-use Rattle.haft_cli.proofs.Working.{refused_for, fits_for, report_for, refusal_for}
+use Rattle.haft_cli.proofs.Working.{refused_for, fits_for}
 use Rattle.haft_cli.proofs.command.Command.report.Goals as goal
 
 pub returns-in_err-a-in-Check-clause-refused : goal.returns-in_err-a-in-Check-clause-refused
@@ -23,15 +23,10 @@ returns-in_err-a-in-Run-clause-refused c =
     because c.from_residual-in_err-a-in-Run.result c.in_err-a-in-Run.field-0.0 (Refuses (λ refusal. Works (row_of c.args.self) c.args.first.now c.args.second.now (Refused refusal))) c.from_residual-in_err-a-in-Run.ensures.1
     (refused_for c.args.self Run c.in-Run.is c.args.first.now c.args.second.now c.in_err-a-in-Run.field-0.0 c.in_err-a-in-Run.ensures.refused)
 
-pub returns-in_ok-a-in-Run-clause-report : goal.returns-in_ok-a-in-Run-clause-report
-returns-in_ok-a-in-Run-clause-report c =
-    report_for c.args.self Run c.in-Run.is c.args.first.now c.args.second.now c.in_ok-a-in-Run.a c.in_ok-a-in-Run.s c.in_ok-a-in-Run.ensures.module c.in_ok-a-in-Run.ensures.schedule
-    c.run_report-text.result c.run_report-text.ensures.report
-
-pub returns-in_ok-a-in-Run-clause-refused : goal.returns-in_ok-a-in-Run-clause-refused
-returns-in_ok-a-in-Run-clause-refused c =
-    refusal_for c.args.self Run c.in-Run.is c.args.first.now c.args.second.now c.in_ok-a-in-Run.a c.in_ok-a-in-Run.s c.in_ok-a-in-Run.ensures.module c.in_ok-a-in-Run.ensures.schedule
-    c.run_report-text.result c.run_report-text.ensures.refused
+pub returns-in_ok-text-in-Run-clause-report : goal.returns-in_ok-text-in-Run-clause-report
+returns-in_ok-text-in-Run-clause-report c =
+    fits_for c.args.self Run c.in-Run.is c.args.first.now c.args.second.now c.in_ok-a-in-Run.a c.in_ok-a-in-Run.s c.in_ok-a-in-Run.ensures.module c.in_ok-a-in-Run.ensures.schedule
+    (Report c.in_ok-text-in-Run.field-0.items) (ap Report (sym c.in_ok-text-in-Run.ensures))
 
 pub returns-in_err-a-in-Src-clause-refused : goal.returns-in_err-a-in-Src-clause-refused
 returns-in_err-a-in-Src-clause-refused c =
