@@ -1,6 +1,7 @@
 //! The machine.
-ghost use Rattle.std.specs.Prelude.{ℕ, ◌≡◌, IfOk, OnOk, OnErr};
+ghost use Rattle.std.specs.Prelude.{ℕ, ◌≡◌, None, IfOk, OnOk, OnErr};
 ghost use Rattle.std.specs.Option.{option_copied, ForSome};
+ghost use Rattle.sched_file.specs.Events.{UpsetBy};
 ghost use Rattle.sched_file.specs.Shown.{shown};
 ghost use Rattle.elide.specs.Watches.{watch_of};
 ghost use Rattle.rtm_core.specs.Transactions.{thread};
@@ -19,7 +20,7 @@ use hard_ir::Hardened;
 use ir_core::Tid;
 use process::CallStack;
 use rtm_core::Rtm;
-use sched_file::Event;
+use sched_file::{Event, UpsetSpec};
 use std::alloc::{AllocError, Global};
 use std::marker::Model;
 use tx_runtime::Words;
@@ -71,6 +72,20 @@ impl<'a> Machine<'a> {
         })
     }
 
+    // An upset of a schedule. For want of memory nothing changes.
+    fn strike(&mut self, spec: &UpsetSpec) -> Result<(), AllocError>
+        requires { self.old.state.stop ≡ None }
+        ensures state { OnOk result (self.new ≡ record self.old { state = happened self.old.program self.old.state (UpsetBy spec.now) }) }
+        ensures err { OnErr result (self.new ≡ self.old) }
+    {
+        let Machine {
+            core,
+            upsets,
+            windows,
+        } = self;
+        upset(core, upsets, windows, spec)
+    }
+
     /// One event of a schedule. It takes its memory first; for want of it nothing changes.
     pub fn event(&mut self, e: &Event<'_>) -> Result<Flow, AllocError>
         ensures state { OnOk result (self.new ≡ record self.old { state = happened self.old.program self.old.state (shown e.now) }) }
@@ -81,7 +96,7 @@ impl<'a> Machine<'a> {
             match e {
                 Event::Turn(t) => self.core.turn(*t)?,
                 Event::Abort(t) => abort(&mut self.core, *t),
-                Event::Upset(spec) => upset(&mut self.core, &mut self.upsets, &self.windows, spec)?,
+                Event::Upset(spec) => self.strike(spec)?,
             }
         }
         if self.core.stop.is_some() {
