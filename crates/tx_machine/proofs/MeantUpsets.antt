@@ -18,7 +18,7 @@ use Rattle.hard_ir.specs.Hardened.{HardParts}
 use Rattle.hard_frames.specs.declared.state.Frame.{Frame}
 use Rattle.hard_frames.specs.Code.{blocks_at}
 use Rattle.elide.specs.Watches.{WatchParts}
-use Rattle.rtm_core.specs.Transactions.{Transaction, thread}
+use Rattle.rtm_core.specs.Transactions.{Transaction}
 use Rattle.tx_runtime.specs.declared.words.Mode as runtime
 use Rattle.tx_runtime.specs.declared.words.Mode.TheVariants.{Out, In, Plain}
 use Rattle.upset_model.specs.Table.{in_window_of}
@@ -31,7 +31,7 @@ use Rattle.hard_meaning.specs.Strikes.{Target, target_of, struck, window_at, is_
 use Rattle.tx_machine.specs.declared.strikes.StruckAt.{StruckAt}
 use Rattle.tx_machine.specs.Own.{OwnParts}
 use Rattle.tx_machine.specs.Joined.{mode_with, joined_one, joined, is_in}
-use Rattle.tx_machine.specs.Core.{CoreParts, with_own, aborted_as, core_aborted}
+use Rattle.tx_machine.specs.Core.{CoreParts, with_own, core_aborted}
 use Rattle.tx_machine.specs.Struck.{stack_place, place_of}
 use Rattle.tx_machine.specs.Meant.{state_of, AreTied, IsTied, StandsAt}
 use Rattle.tx_machine.specs.Upsets.{carried_if, carried, all_carried, thread_place, thread_struck, own_struck, number_if, some_standing, inside_at, window_of, core_kind, core_place, core_struck, core_upset_at, core_upset, kind_at, upset_kind}
@@ -257,21 +257,6 @@ module _ (upset : UpsetSpec) (ups : List Upset) (p : CoreParts) (tied : IsTied p
   pub upset-tied : IsTied (core_upset upset ups p)
   upset-tied = at-tied (core_place upset p)
 
-module _ (upset : UpsetSpec) (ups : List Upset) (p : CoreParts) where
-  at-program : (o : Option StruckAt) → (core_upset_at o upset ups p).program ≡ p.program
-  at-program None = refl
-  at-program (Some at) = refl
-
-  pub upset-program : (core_upset upset ups p).program ≡ p.program
-  upset-program = at-program (core_place upset p)
-
-  at-stop : (o : Option StruckAt) → (core_upset_at o upset ups p).stop ≡ p.stop
-  at-stop None = refl
-  at-stop (Some at) = refl
-
-  pub upset-stop : (core_upset upset ups p).stop ≡ p.stop
-  upset-stop = at-stop (core_place upset p)
-
 -- ---- aborts that are asked for
 
 module _ (p : CoreParts) (t : ℕ) (tied : IsTied p) where
@@ -293,10 +278,3 @@ pub asked-nowhere : (p : CoreParts) (t : ℕ) → length p.own ≤ t → (ups : 
     → state_of p ups ≡ abort_in (state_of p ups) t (slice_get (state_of p ups).workers t)
 asked-nowhere p t past ups =
     sym (ap (abort_in (state_of p ups) t) (none-joined p.own p.rtm.threads p.watches t (slice_get_past p.own t past)))
-
-pub asked-stop : (p : CoreParts) (t : ℕ) → (core_aborted Other t p).stop ≡ p.stop
-asked-stop p t = by (thread p.rtm t)
-  where
-    by : (o : Option (Transaction (CallStack Frame))) → (aborted_as o Other t p).stop ≡ p.stop
-    by None = refl
-    by (Some tx) = refl

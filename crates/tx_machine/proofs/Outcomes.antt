@@ -7,10 +7,6 @@ module _ {A E : Type 0} where
   both-ok (Ok a) f p q = f p q
   both-ok (Err e) f p q = p
 
-  pub both-err : {P Q R : Type 0} (r : Result A E) → (P → Q → R) → OnErr r P → OnErr r Q → OnErr r R
-  both-err (Ok a) f p q = p
-  both-err (Err e) f p q = f p q
-
   -- what holds before and after holds either way
   pub either-way : {X : Type 0} (r : Result A E) (P : X → Type 0) (old next new : X) → OnOk r (new ≡ next) → OnErr r (new ≡ old) → P old → P next → P new
   either-way (Ok a) P old next new e f before after = subst P (sym e) after

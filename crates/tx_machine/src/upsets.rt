@@ -211,8 +211,7 @@ pub(crate) fn abort(core: &mut Core<'_>, t: Tid)
     ensures program { core.new.program ≡ core.old.program }
     ensures stop { core.new.stop ≡ core.old.stop }
 {
-    if t.0 as usize >= core.workers.len() {
-        return;
+    if (t.0 as usize) < core.workers.len() {
+        core.abort(t, Status::Other);
     }
-    core.abort(t, Status::Other);
 }

@@ -1,10 +1,10 @@
-use Rattle.std.proofs.Common.{◌≡◌, ◌∙◌, List, ap, sym, refl}
+use Rattle.std.proofs.Common.{◌∙◌, List, ap}
 use Rattle.hard_meaning.specs.State.{Upset}
 use Rattle.tx_machine.specs.Core.{CoreParts}
 use Rattle.tx_machine.specs.Meant.{state_of, IsTied}
 use Rattle.tx_machine.specs.Upsets.{core_upset}
-use Rattle.tx_machine.proofs.Outcomes.{both-ok, both-err, either-way}
-use Rattle.tx_machine.proofs.MeantUpsets.{upset-meant, upset-tied, upset-program, upset-stop}
+use Rattle.tx_machine.proofs.Outcomes.{both-ok, either-way}
+use Rattle.tx_machine.proofs.MeantUpsets.{upset-meant, upset-tied}
 use Rattle.tx_machine.proofs.upsets.upset.Goals as goal
 
 pub returns-clause-ok : goal.returns-clause-ok
@@ -18,18 +18,3 @@ pub returns-clause-tied : goal.returns-clause-tied
 returns-clause-tied c =
     either-way c.upset.result IsTied c.args.core.now (core_upset c.args.upset.now c.args.log.now c.args.core.now) c.upset.new.self
     c.upset.ensures.core c.upset.ensures.core_err c.requires.tied (upset-tied c.args.upset.now c.args.log.now c.args.core.now c.requires.tied)
-
-pub returns-clause-program : goal.returns-clause-program
-returns-clause-program c =
-    either-way c.upset.result (λ (p : CoreParts). p.program ≡ c.args.core.now.program) c.args.core.now
-    (core_upset c.args.upset.now c.args.log.now c.args.core.now) c.upset.new.self c.upset.ensures.core c.upset.ensures.core_err refl
-    (upset-program c.args.upset.now c.args.log.now c.args.core.now)
-
-pub returns-clause-stop : goal.returns-clause-stop
-returns-clause-stop c =
-    either-way c.upset.result (λ (p : CoreParts). p.stop ≡ c.args.core.now.stop) c.args.core.now
-    (core_upset c.args.upset.now c.args.log.now c.args.core.now) c.upset.new.self c.upset.ensures.core c.upset.ensures.core_err refl
-    (upset-stop c.args.upset.now c.args.log.now c.args.core.now)
-
-pub returns-clause-err : goal.returns-clause-err
-returns-clause-err c = both-err c.upset.result (λ e f. (e, f)) c.upset.ensures.core_err c.upset.ensures.log_err
