@@ -1,5 +1,5 @@
 -- Events of a schedule: what one comes to where nothing has stopped, and that nothing changes where something has.
-use Rattle.std.proofs.Common.{ℕ, ◌≡◌, ◌∙◌, List, Option, Some, None, ap, sym}
+use Rattle.std.proofs.Common.{◌≡◌, ◌∙◌, List, Option, Some, None, ap, sym}
 use Rattle.ir_core.specs.declared.types.Tid.{Tid}
 use Rattle.sched_file.specs.Events.{Happening, TurnOf}
 use Rattle.hard_ir.specs.Hardened.{HardParts}

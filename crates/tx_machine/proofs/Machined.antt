@@ -1,5 +1,5 @@
 -- What the code's parts show of the state that they stand for: open transactions, the runtime's words, and what is watched.
-use Rattle.std.proofs.Common.{ℕ, zero, suc, ◌≡◌, ◌∙◌, Bool, true, false, List, [], ◌∷◌, Option, Some, None, slice_get, refl, ap, sym, subst}
+use Rattle.std.proofs.Common.{ℕ, zero, suc, ◌≡◌, ◌∙◌, List, [], ◌∷◌, Option, Some, None, slice_get, refl, ap, sym, subst}
 use Rattle.std.specs.Option.{option_map, option_and_then, option_flatten, is_some, ForSome}
 use Rattle.process.specs.declared.state.CallStack.{CallStack}
 use Rattle.hard_frames.specs.declared.state.Frame.{Frame}
@@ -9,11 +9,11 @@ use Rattle.tx_runtime.specs.declared.words.Mode as runtime
 use Rattle.tx_runtime.specs.declared.words.Mode.TheVariants.{Out, In, Plain}
 use Rattle.hard_meaning.specs.State.{Worker, Upset}
 use Rattle.tx_machine.specs.Own.{OwnParts}
-use Rattle.tx_machine.specs.Joined.{joined, joined_one, mode_with, is_in}
+use Rattle.tx_machine.specs.Joined.{joined, mode_with, is_in}
 use Rattle.tx_machine.specs.Core.{CoreParts}
-use Rattle.tx_machine.specs.Meant.{state_of, AreTied, IsTied, StandsAt}
+use Rattle.tx_machine.specs.Meant.{state_of, AreTied, IsTied}
 use Rattle.tx_machine.specs.Machined.{open_in, open_at, mode_word, words_of, words_at, watched_in, watched_at}
-use Rattle.tx_machine.proofs.Meant.{IsFound, found, thread-is, worker-is}
+use Rattle.tx_machine.proofs.Meant.{found, thread-is, worker-is}
 use Rattle.tx_machine.proofs.MeantEnds.{index-there}
 
 -- ---- threads that weren't made

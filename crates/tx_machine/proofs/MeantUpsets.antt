@@ -6,7 +6,6 @@ use Rattle.std.specs.Option.{is_some, option_map, option_map_or, option_and_then
 use Rattle.std.proofs.lemmas.List.{reverse-append}
 use Rattle.std.proofs.lemmas.Option.{slice_get_past}
 use Rattle.std.proofs.lemmas.List.Folds.{list_any-append}
-use Rattle.ir_layout.specs.Memory.{thread_limit}
 use Rattle.line_sets.specs.Sets.{has}
 use Rattle.process.specs.declared.state.CallStack.{CallStack}
 use Rattle.process.specs.declared.state.Thread.{Thread}
@@ -22,19 +21,19 @@ use Rattle.rtm_core.specs.Transactions.{Transaction}
 use Rattle.tx_runtime.specs.declared.words.Mode as runtime
 use Rattle.tx_runtime.specs.declared.words.Mode.TheVariants.{Out, In, Plain}
 use Rattle.upset_model.specs.Table.{in_window_of}
-use Rattle.hard_meaning.specs.State.{Mode, Worker, State, Upset, Nowhere, OnAnother, InWindow, Struck, is_inside}
+use Rattle.hard_meaning.specs.State.{Worker, State, Upset, Nowhere, OnAnother, InWindow, Struck, is_inside}
 use Rattle.hard_meaning.specs.Aborts.{Other}
 use Rattle.hard_meaning.specs.Effects.{with_worker}
-use Rattle.hard_meaning.specs.Records.{struck_in, carries, some_stands, records}
+use Rattle.hard_meaning.specs.Records.{carries, some_stands, records}
 use Rattle.hard_meaning.specs.Runs.{abort_in}
-use Rattle.hard_meaning.specs.Strikes.{Target, target_of, struck, window_at, is_in_window, marked_as, kind_of, noted, struck_as, struck_at, upset_in, upset_by}
+use Rattle.hard_meaning.specs.Strikes.{Target, target_of, struck, window_at, is_in_window, marked_as, kind_of, struck_as, struck_at, upset_in, upset_by}
 use Rattle.tx_machine.specs.declared.strikes.StruckAt.{StruckAt}
 use Rattle.tx_machine.specs.Own.{OwnParts}
 use Rattle.tx_machine.specs.Joined.{mode_with, joined_one, joined, is_in}
-use Rattle.tx_machine.specs.Core.{CoreParts, with_own, core_aborted}
-use Rattle.tx_machine.specs.Struck.{stack_place, place_of}
+use Rattle.tx_machine.specs.Core.{CoreParts, core_aborted}
+use Rattle.tx_machine.specs.Struck.{place_of}
 use Rattle.tx_machine.specs.Meant.{state_of, AreTied, IsTied, StandsAt}
-use Rattle.tx_machine.specs.Upsets.{carried_if, carried, all_carried, thread_place, thread_struck, own_struck, number_if, some_standing, inside_at, window_of, core_kind, core_place, core_struck, core_upset_at, core_upset, kind_at, upset_kind}
+use Rattle.tx_machine.specs.Upsets.{carried, all_carried, thread_place, thread_struck, own_struck, number_if, some_standing, inside_at, window_of, core_kind, core_place, core_struck, core_upset_at, core_upset, kind_at, upset_kind}
 use Rattle.tx_machine.proofs.Logs.{records-by, some-of}
 use Rattle.tx_machine.proofs.Meant.{there-within, found, worker-is, own-meant, own-tied}
 use Rattle.tx_machine.proofs.MeantAborts.{in_mode, aborted-meant, aborted-tied}

@@ -1,9 +1,9 @@
 -- Numbers of upsets of which the first so many stand, as they are taken back and settled.
-use Rattle.std.proofs.Common.{ℕ, zero, suc, ◌≡◌, ◌∙◌, ◌≤◌, ◌<◌, ◌+◌, List, [], ◌∷◌, ◌++◌, take, drop, length, reverse, refl, ap, sym, arith}
+use Rattle.std.proofs.Common.{ℕ, zero, suc, ◌≡◌, ◌∙◌, ◌≤◌, ◌<◌, ◌+◌, List, [], ◌∷◌, ◌++◌, take, drop, length, reverse, refl, ap, sym}
 use Rattle.std.proofs.lemmas.List.{reverse-append, take_more_set}
 use Rattle.std.proofs.Math.ListN.{set}
 use Rattle.tx_machine.specs.Own.{MarksParts}
-use Rattle.tx_machine.proofs.Cuts.{drop-more, take-more, take-all, drop-all, length-take}
+use Rattle.tx_machine.proofs.Cuts.{drop-more, take-more, drop-all}
 
 abbrev pub parts_of : ℕ → List ℕ → MarksParts
 parts_of n xs = record { struck = reverse (drop n xs); hits = reverse (take n xs) }

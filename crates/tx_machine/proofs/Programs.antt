@@ -1,7 +1,6 @@
 -- No turn changes the program.
-use Rattle.std.proofs.Common.{ℕ, zero, suc, ◌≡◌, ◌∙◌, nat_eq, nat_lt, Bool, true, false, List, [], length, Option, Some, None, slice_get, refl}
+use Rattle.std.proofs.Common.{ℕ, zero, suc, ◌≡◌, ◌∙◌, nat_eq, nat_lt, Bool, true, false, length, Option, Some, None, slice_get, refl}
 use Rattle.std.specs.Option.{option_map_or, is_some}
-use Rattle.ir_core.specs.declared.instruction.Inst.{Inst}
 use Rattle.ir_core.specs.declared.types.Loc.{Loc}
 use Rattle.ir_core.specs.declared.values.Side.{Side}
 use Rattle.ir_layout.specs.Memory.{is_valid, thread_limit}
@@ -22,16 +21,15 @@ use Rattle.hard_frames.specs.declared.outcome.Stop.{Stop}
 use Rattle.hard_frames.specs.declared.outcome.Stop.TheVariants.{Fail, Trap}
 use Rattle.hard_frames.specs.declared.state.Frame.{Frame}
 use Rattle.hard_frames.specs.Frames.{destination_on}
-use Rattle.elide.specs.Watches.{watch_of}
 use Rattle.rtm_core.specs.declared.Got.{Got}
 use Rattle.rtm_core.specs.declared.Got.TheVariants as gots
 use Rattle.rtm_core.specs.Transactions.{Transaction, thread, entry_of, word_seen}
 use Rattle.rtm_core.specs.Calls.{reading, writing, got_of}
 use Rattle.hard_meaning.specs.Aborts.{Status, Mismatch, Conflict, Overflow, Other}
-use Rattle.hard_meaning.specs.Locks.{MutexCall, Locks, Unlocks, mutex_request, taken_by}
+use Rattle.hard_meaning.specs.Locks.{MutexCall, mutex_request, taken_by}
 use Rattle.tx_machine.specs.Own.{OwnParts}
-use Rattle.tx_machine.specs.Core.{CoreParts, is_open, aborted_as, core_aborted, halted_if, core_failed, core_trapped, begun_with, kept_in, core_begun, closed_if, closed_by, is_holding, core_closed, passed_if, can_close, core_ended, cuts_in, cut_as, core_cut, agreed_as, compared_at, checked_as, core_checked, copied_at, copied_as, core_copied, told_as, core_told, core_touched, took, core_accessed, finished_as, core_finished, core_done, room_for, failure_at, alone_as, core_alone, watcher_if, watches_other, watchers_aborted, core_taken, taken_as, core_taking, reply_at, core_requested, replied_as, core_asked, place_in}
-use Rattle.tx_machine.specs.Turned.{core_called, core_started, core_unstarted, numbered_as, core_numbered, created_as, core_created, ended_at, awaited_as, core_awaited, told_outside, core_left, can_watch_in, watched_as, core_watched, requested_as, core_request, met_as, found_as, core_matched, seeking, sought, memory_checked_as, core_memory_checked, gone_as, gone_if, core_exited, core_acted, action_at, done_as, core_done_by, core_stepped_at, inst_in, run_as, core_run, turned_as, core_turn}
+use Rattle.tx_machine.specs.Core.{CoreParts, is_open, aborted_as, core_aborted, halted_if, core_failed, core_trapped, begun_with, kept_in, core_begun, closed_if, closed_by, is_holding, core_closed, passed_if, can_close, core_ended, cuts_in, cut_as, core_cut, agreed_as, compared_at, checked_as, copied_at, copied_as, told_as, core_told, core_touched, took, core_accessed, finished_as, core_finished, core_done, room_for, failure_at, alone_as, core_alone, watcher_if, watches_other, watchers_aborted, taken_as, reply_at, core_requested, replied_as, core_asked, place_in}
+use Rattle.tx_machine.specs.Turned.{core_called, core_started, core_unstarted, numbered_as, core_numbered, created_as, core_created, ended_at, awaited_as, core_awaited, told_outside, core_left, can_watch_in, watched_as, core_watched, requested_as, core_request, met_as, found_as, core_matched, seeking, sought, memory_checked_as, gone_as, gone_if, core_exited, core_acted, action_at, done_as, core_stepped_at, inst_in, run_as, core_run, turned_as, core_turn}
 
 -- ---- aborts, stops, begin and end
 

@@ -1,6 +1,6 @@
 -- Small laws of the code's turns: what stays where a turn is told, where a thread is made, and where a transaction begins.
-use Rattle.std.proofs.Common.{ℕ, zero, suc, ◌≡◌, ◌∙◌, ◌+◌, ◌<◌, ◌^◌, OnSome, Bool, true, false, List, [], ◌∷◌, ◌++◌, length, Option, Some, None, slice_get, slice_set, refl, ap, sym, subst, arith}
-use Rattle.std.specs.Option.{option_map, option_map_or, is_some, option_flatten}
+use Rattle.std.proofs.Common.{ℕ, zero, suc, ◌≡◌, ◌∙◌, ◌+◌, ◌<◌, ◌^◌, OnSome, Bool, true, false, List, [], ◌∷◌, ◌++◌, length, Option, Some, None, slice_get, refl, ap, sym, subst, arith}
+use Rattle.std.specs.Option.{option_map, option_map_or}
 use Rattle.ir_core.specs.declared.types.Loc.{Loc}
 use Rattle.ir_core.specs.declared.values.Side.{Side}
 use Rattle.process.specs.declared.state.CallStack.{CallStack}
@@ -13,15 +13,13 @@ use Rattle.tx_runtime.specs.declared.words.Mode.TheVariants.{Out, In, Plain}
 use Rattle.tx_runtime.specs.Words.{begin_from}
 use Rattle.hard_frames.specs.declared.state.Frame.{Frame}
 use Rattle.hard_frames.specs.Frames.{frames}
-use Rattle.elide.specs.Watches.{WatchParts}
-use Rattle.rtm_core.specs.Transactions.{Transaction, thread}
-use Rattle.tx_machine.specs.Own.{OwnParts, new_own, kept_thread, kept_by, once_pending}
+use Rattle.tx_machine.specs.Own.{OwnParts, new_own, kept_thread, kept_by}
 use Rattle.tx_machine.specs.Joined.{is_in}
-use Rattle.tx_machine.specs.Core.{CoreParts, own_with, is_open, CanPassIn, kept_in, BeginsOutside, told_as, core_told, can_close}
+use Rattle.tx_machine.specs.Core.{CoreParts, is_open, CanPassIn, BeginsOutside, told_as, core_told, can_close}
 use Rattle.tx_machine.specs.Meant.{IsTied}
 use Rattle.tx_machine.specs.Turned.{core_called, core_started, core_unstarted}
 use Rattle.tx_machine.proofs.Told.{take-front}
-use Rattle.tx_machine.proofs.Meant.{IsFound, found, open-is}
+use Rattle.tx_machine.proofs.Meant.{found, open-is}
 
 -- ---- a thread that is made stands after the others
 

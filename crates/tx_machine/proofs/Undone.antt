@@ -13,13 +13,13 @@ use Rattle.tx_runtime.specs.declared.words.Mode.TheVariants.{Out, In, Plain}
 use Rattle.rtm_core.specs.declared.Aborted.{Aborted}
 use Rattle.rtm_core.specs.Footprint.{conflicts}
 use Rattle.rtm_core.specs.Transactions.{Transaction, kept_of, meets, strikes, none_if, spared_from, joined_if, struck_from}
-use Rattle.rtm_core.specs.Calls.{aborted_with, conflict_status, conflict_aborts, AreThreads}
-use Rattle.hard_meaning.specs.State.{Mode, Free, Inside, Worker}
-use Rattle.hard_meaning.specs.Aborts.{Conflict, Claim, aborted, is_in_the_way, aborted_if, spared}
-use Rattle.tx_machine.specs.Own.{OwnParts, once_undone, undone_in}
-use Rattle.tx_machine.specs.Joined.{mode_with, joined_one, joined}
+use Rattle.rtm_core.specs.Calls.{conflict_aborts, AreThreads}
+use Rattle.hard_meaning.specs.State.{Worker}
+use Rattle.hard_meaning.specs.Aborts.{Conflict, Claim, aborted_if, spared}
+use Rattle.tx_machine.specs.Own.{OwnParts, once_undone}
+use Rattle.tx_machine.specs.Joined.{joined_one, joined}
 use Rattle.tx_machine.specs.Undone.{HeldParts, undone_own, undone_at, undone_all, own_all, watches_all}
-use Rattle.tx_machine.proofs.Joined.{set-joined, set-same}
+use Rattle.tx_machine.proofs.Joined.{set-same}
 
 -- each list goes by itself
 pub undone-apart : (list : List (Aborted (CallStack Frame))) (s : HeldParts) → undone_all list s ≡ record { own = own_all list s.own; watches = watches_all list s.watches }

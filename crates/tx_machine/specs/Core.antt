@@ -1,7 +1,6 @@
 -- All that runs, part by part, and what the machine's steps do to it, as the code does them.
-use Rattle.std.specs.Prelude.{ℕ, zero, suc, nat_eq, ◌&&◌, ◌+◌, ◌-◌, ◌<◌, ◌^◌, ◌≡◌, OnSome, Bool, true, false, not, List, [], ◌∷◌, ◌++◌, Option, Some, None, length, take, replicate, slice_get, slice_set}
+use Rattle.std.specs.Prelude.{ℕ, zero, suc, nat_eq, ◌&&◌, ◌+◌, ◌-◌, ◌<◌, ◌^◌, ◌≡◌, OnSome, Bool, true, false, not, List, [], ◌++◌, Option, Some, None, length, take, replicate, slice_get, slice_set}
 use Rattle.std.specs.Option.{option_map, option_map_or, is_some}
-use Rattle.ir_core.specs.declared.types.Tid.{Tid}
 use Rattle.ir_core.specs.declared.types.Ty.{Ty}
 use Rattle.ir_core.specs.declared.types.Loc.{Loc}
 use Rattle.ir_core.specs.declared.values.Side.{Side}
@@ -37,7 +36,7 @@ use Rattle.hard_meaning.specs.Checks.{is_active}
 use Rattle.hard_meaning.specs.Locks.{mutex_request, taken_by}
 use Rattle.tx_machine.specs.Resolved.{resolved}
 use Rattle.tx_machine.specs.Undone.{own_all, watches_all}
-use Rattle.tx_machine.specs.Own.{OwnParts, once_passed, once_begun, kept_thread, once_ticked, once_ended, once_committed, once_pending, once_unpending, once_undone, compared_in, copied_in, copied_thread, failure_in, moved_thread, reply_in, world_in, asked_thread}
+use Rattle.tx_machine.specs.Own.{OwnParts, once_passed, once_begun, kept_thread, once_ended, once_committed, once_pending, once_unpending, once_undone, compared_in, copied_in, copied_thread, failure_in, moved_thread, reply_in, world_in, asked_thread}
 
 pub record CoreParts : Type 0 where
   pub program : HardParts

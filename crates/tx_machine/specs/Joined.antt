@@ -1,6 +1,6 @@
 -- Threads as the machine's definitions see them, out of what three parts of the code keep: the threads by themselves, their transactions in
 -- memory under transactions, and what they watch and hold.
-use Rattle.std.specs.Prelude.{ℕ, Bool, true, false, List, [], ◌∷◌, Option, Some, None}
+use Rattle.std.specs.Prelude.{Bool, true, false, List, [], ◌∷◌, Option, Some, None}
 use Rattle.process.specs.declared.state.CallStack.{CallStack}
 use Rattle.tx_runtime.specs.declared.words.Mode as runtime
 use Rattle.tx_runtime.specs.declared.words.Mode.TheVariants.{Out, In, Plain}

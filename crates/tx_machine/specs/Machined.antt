@@ -1,5 +1,5 @@
 -- A machine with its program, as contracts see it; and what its parts show of its state.
-use Rattle.std.specs.Prelude.{ℕ, Bool, true, false, Option, Some, None, slice_get}
+use Rattle.std.specs.Prelude.{ℕ, true, false, Option, Some, None, slice_get}
 use Rattle.std.specs.Option.{option_map, option_and_then}
 use Rattle.process.specs.declared.state.CallStack.{CallStack}
 use Rattle.hard_ir.specs.Hardened.{HardParts}

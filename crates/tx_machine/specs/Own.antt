@@ -3,7 +3,7 @@
 --
 -- Choices: what a transaction kept and touched stands in memory under transactions, and what it watches and holds with lock elision. What belongs to a transaction
 -- has no meaning while none is open. A thread has aborted fewer transactions of each cause than it has begun, so no count runs over.
-use Rattle.std.specs.Prelude.{ℕ, suc, ◌≤◌, ◌<◌, ◌+◌, ◌-◌, ◌^◌, Bool, true, false, List, [], ◌++◌, Option, Some, None}
+use Rattle.std.specs.Prelude.{ℕ, suc, ◌≤◌, ◌<◌, ◌+◌, ◌-◌, ◌^◌, Bool, List, [], ◌++◌, Option, Some, None}
 use Rattle.ir_core.specs.declared.types.Ty.{Ty}
 use Rattle.ir_core.specs.declared.types.Loc.{Loc}
 use Rattle.ir_core.specs.declared.values.Side.{Side}

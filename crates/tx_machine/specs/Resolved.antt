@@ -1,5 +1,5 @@
 -- Actions on memory as actions that need none, once the word that is found is known.
-use Rattle.std.specs.Prelude.{ℕ, Bool, true, false, Option, Some, None}
+use Rattle.std.specs.Prelude.{Bool, true, false, Option, Some, None}
 use Rattle.ir_layout.specs.Memory.{is_valid}
 use Rattle.mem_image.specs.Accesses.{bytes}
 use Rattle.mem_image.specs.Bytes.{Memory, peek}

@@ -17,7 +17,6 @@ use Rattle.inst_meaning.specs.declared.actions.Request.{Request}
 use Rattle.inst_meaning.specs.Action.{place_at}
 use Rattle.inst_meaning.specs.Operands.{memory_width}
 use Rattle.inst_meaning.specs.World.{owner_of, opening_world}
-use Rattle.process.specs.declared.state.CallStack.{CallStack}
 use Rattle.process.specs.declared.state.Thread.{Thread}
 use Rattle.process.specs.declared.state.Thread.TheVariants.{Running, Exiting, Ended}
 use Rattle.process.specs.State.{new_thread}

@@ -1,7 +1,7 @@
 //! The machine.
 ghost use Rattle.std.specs.Prelude.{ℕ, ◌≡◌, None, IfOk, OnOk, OnErr};
 ghost use Rattle.std.specs.Option.{option_copied, ForSome};
-ghost use Rattle.sched_file.specs.Events.{UpsetBy};
+ghost use Rattle.sched_file.specs.Events.{TurnOf, AbortOf, UpsetBy};
 ghost use Rattle.sched_file.specs.Shown.{shown};
 ghost use Rattle.elide.specs.Watches.{watch_of};
 ghost use Rattle.rtm_core.specs.Transactions.{thread};
@@ -13,6 +13,7 @@ ghost use Rattle.tx_machine.specs.Machined.{flow_of, open_at, words_at, watched_
 use crate::RunResult;
 use crate::parts::Core;
 use crate::records::UpsetLog;
+use crate::turns::turn;
 use crate::upsets::{abort, upset};
 use elide::Elision;
 use hard_frames::Frame;
@@ -86,24 +87,60 @@ impl<'a> Machine<'a> {
         upset(core, upsets, windows, spec)
     }
 
+    // A turn of a thread. For want of memory nothing changes.
+    fn turn(&mut self, t: Tid) -> Result<(), AllocError>
+        requires { self.old.state.stop ≡ None }
+        ensures state { OnOk result (self.new ≡ record self.old { state = happened self.old.program self.old.state (TurnOf t) }) }
+        ensures err { OnErr result (self.new ≡ self.old) }
+    {
+        turn(&mut self.core, t)
+    }
+
+    // A thread's transaction is aborted, where it has one.
+    fn abort(&mut self, t: Tid)
+        requires { self.old.state.stop ≡ None }
+        ensures { self.new ≡ record self.old { state = happened self.old.program self.old.state (AbortOf t) } }
+    {
+        abort(&mut self.core, t);
+    }
+
+    // An event, where nothing has stopped. For want of memory nothing changes.
+    fn happen(&mut self, e: &Event<'_>) -> Result<(), AllocError>
+        requires { self.old.state.stop ≡ None }
+        ensures state { OnOk result (self.new ≡ record self.old { state = happened self.old.program self.old.state (shown e.now) }) }
+        ensures err { OnErr result (self.new ≡ self.old) }
+    {
+        match e {
+            Event::Turn(t) => self.turn(*t),
+            Event::Abort(t) => {
+                self.abort(*t);
+                Ok(())
+            }
+            Event::Upset(spec) => self.strike(spec),
+        }
+    }
+
+    // Whether it goes on.
+    fn flow(&self) -> Flow
+        ensures { result ≡ flow_of self.now.state.stop }
+    {
+        if self.core.has_stopped() {
+            Flow::Stopped
+        } else {
+            Flow::Going
+        }
+    }
+
     /// One event of a schedule. It takes its memory first; for want of it nothing changes.
     pub fn event(&mut self, e: &Event<'_>) -> Result<Flow, AllocError>
         ensures state { OnOk result (self.new ≡ record self.old { state = happened self.old.program self.old.state (shown e.now) }) }
         ensures flow { IfOk result (λ flow. flow ≡ flow_of self.new.state.stop) }
         ensures err { OnErr result (self.new ≡ self.old) }
     {
-        if self.core.stop.is_none() {
-            match e {
-                Event::Turn(t) => self.core.turn(*t)?,
-                Event::Abort(t) => abort(&mut self.core, *t),
-                Event::Upset(spec) => self.strike(spec)?,
-            }
+        if self.flow() == Flow::Going {
+            self.happen(e)?;
         }
-        if self.core.stop.is_some() {
-            Ok(Flow::Stopped)
-        } else {
-            Ok(Flow::Going)
-        }
+        Ok(self.flow())
     }
 
     /// What the run has come to. It takes no memory.
@@ -119,24 +156,21 @@ impl<'a> Machine<'a> {
         ensures memory { result.now.memory ≡ self.now.state.memory }
         ensures open { (t : ℕ) → thread result.now t ≡ open_at self.now.state t }
     {
-        &self.core.rtm
+        self.core.rtm()
     }
 
     /// The runtime's words of a thread, which are those of the state; `None` exactly where it wasn't made.
     pub fn words(&self, t: Tid) -> Option<&Words>
         ensures { option_copied result ≡ words_at self.now.state t.0 }
     {
-        match self.core.workers.get(t.0 as usize) {
-            Some(worker) => Some(&worker.words),
-            None => None,
-        }
+        self.core.words(t)
     }
 
     /// What open transactions watch and hold: what those of the state do.
     pub fn elision(&self) -> &Elision
         ensures { (t : ℕ) → ForSome (watched_at self.now.state t) (λ watch. watch_of result.now t ≡ watch) }
     {
-        &self.core.elision
+        self.core.elision()
     }
 
     /// The table of the program's windows.

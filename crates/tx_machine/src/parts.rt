@@ -1,6 +1,6 @@
 //! All that runs, part by part.
 ghost use Rattle.std.specs.Prelude.{◌≡◌, ◌+◌, ◌*◌, ◌<◌, ◌^◌, None, Some, length, slice_get, IfOk, IfSome, OnOk, OnErr, OnSome};
-ghost use Rattle.std.specs.Option.{is_some};
+ghost use Rattle.std.specs.Option.{is_some, option_map, option_copied};
 ghost use Rattle.mem_image.specs.Accesses.{bytes};
 ghost use Rattle.mem_image.specs.Bytes.{read_of};
 ghost use Rattle.inst_meaning.specs.Accesses.{updated, IsFitting, IsFittingUpdate};
@@ -8,7 +8,7 @@ ghost use Rattle.process.specs.Outcome.{touch_of};
 ghost use Rattle.rtm_core.specs.Calls.{reading, writing, updating, got_of};
 ghost use Rattle.rtm_core.specs.Transactions.{entry_of, seen_by, word_seen};
 ghost use Rattle.tx_machine.specs.Resolved.{resolved_access};
-ghost use Rattle.tx_machine.specs.Own.{meant, once_passed, once_ticked};
+ghost use Rattle.tx_machine.specs.Own.{OwnParts, meant, once_passed, once_ticked};
 ghost use Rattle.hard_meaning.specs.Checks.{is_active};
 ghost use Rattle.tx_machine.specs.Turned.{core_opening};
 ghost use Rattle.tx_machine.specs.Core.{CanPassIn, BeginsOutside, with_own, is_open, place_in, core_aborted, core_failed, core_trapped, core_begun, core_closed, can_close, core_ended, core_cut, compared_at, core_checked, copied_at, once_copied_at, core_copied, core_touched, failure_simply, failure_at, core_moved, core_done, core_told, core_untold, core_accessed, took, room_for, core_alone, watcher_if, watches_other, core_taken, core_taking, reply_at, core_requested, core_asked};
@@ -26,6 +26,7 @@ use rtm_core::{Aborted, Got, Rtm};
 use std::alloc::{AllocError, Global};
 use std::marker::Model;
 use turn_runs::TurnLog;
+use tx_runtime::Words;
 
 // Whether an access found its lists not full.
 fn took(got: Got) -> bool
@@ -105,6 +106,37 @@ impl<'a> Core<'a> {
             room: Room::new(alloc),
             alloc,
         })
+    }
+
+    /// The memory under transactions over which all runs.
+    pub(crate) fn rtm(&self) -> &Rtm<CallStack<Frame>>
+        ensures { result.now ≡ self.now.rtm }
+    {
+        &self.rtm
+    }
+
+    /// What threads watch and hold.
+    pub(crate) fn elision(&self) -> &Elision
+        ensures { result.now ≡ self.now.watches }
+    {
+        &self.elision
+    }
+
+    /// The runtime's words of a thread, where it was made.
+    pub(crate) fn words(&self, t: Tid) -> Option<&Words>
+        ensures { option_copied result ≡ option_map (λ (w : OwnParts). w.words) (slice_get self.now.own t.0) }
+    {
+        match self.workers.get(t.0 as usize) {
+            Some(worker) => Some(&worker.words),
+            None => None,
+        }
+    }
+
+    /// Whether all has stopped.
+    pub(crate) fn has_stopped(&self) -> bool
+        ensures { result ≡ is_some self.now.stop }
+    {
+        self.stop.is_some()
     }
 
     // The transaction of a thread is aborted, where it has one.

@@ -1,11 +1,13 @@
 //! Turns of threads.
-ghost use Rattle.std.specs.Prelude.{◌≡◌, ◌<◌, Some, length, slice_get, IfOk, IfSome, OnOk, OnErr, OnSome};
+ghost use Rattle.std.specs.Prelude.{List, ◌≡◌, ◌<◌, Some, None, length, slice_get, IfOk, IfSome, OnOk, OnErr, OnSome};
 ghost use Rattle.std.specs.Option.{option_copied, option_and_then, option_map_or};
 ghost use Rattle.inst_meaning.specs.Accesses.{IsFitting};
 ghost use Rattle.hard_frames.specs.Frames.{destination_on};
 ghost use Rattle.hard_meaning.specs.Locks.{Locks, Unlocks};
 ghost use Rattle.tx_machine.specs.Core.{CanPassIn};
-ghost use Rattle.tx_machine.specs.Meant.{IsTied};
+ghost use Rattle.hard_meaning.specs.State.{Upset};
+ghost use Rattle.hard_meaning.specs.Turns.{turn_of};
+ghost use Rattle.tx_machine.specs.Meant.{state_of, IsTied};
 ghost use Rattle.tx_machine.specs.Turned.{core_left, core_watched, core_request, sought, core_matched, core_memory_checked, gone_as, core_exited, core_acted, action_at, inst_in, core_done_by, core_stepped_at, core_run, core_turn};
 
 use crate::parts::Core;
@@ -146,13 +148,7 @@ impl<'a> Core<'a> {
     }
 
     // A check of memory. For want of memory nothing changes.
-    fn check_memory(
-        &mut self,
-        t: Tid,
-        ty: &Ty,
-        ptr: &HVal,
-        val: &HVal,
-    ) -> Result<(), AllocError>
+    fn check_memory(&mut self, t: Tid, ty: &Ty, ptr: &HVal, val: &HVal) -> Result<(), AllocError>
         requires made { t.0 < length self.old.own }
         requires pass { CanPassIn self.old t.0 }
         ensures ok { OnOk result (self.new ≡ core_memory_checked ty.now ptr.now val.now t.0 self.old) }
@@ -318,8 +314,8 @@ impl<'a> Core<'a> {
         }
     }
 
-    /// A turn of a thread. For want of memory nothing changes.
-    pub(crate) fn turn(&mut self, t: Tid) -> Result<(), AllocError>
+    // A turn of a thread. For want of memory nothing changes.
+    fn turn(&mut self, t: Tid) -> Result<(), AllocError>
         requires { IsTied self.old }
         ensures ok { OnOk result (self.new ≡ core_turn t.0 self.old) }
         ensures err { OnErr result (self.new ≡ self.old) }
@@ -337,4 +333,16 @@ impl<'a> Core<'a> {
             Thread::Ended => Ok(()),
         }
     }
+}
+
+/// A turn of a thread, where nothing has stopped. For want of memory nothing changes.
+pub(crate) fn turn(core: &mut Core<'_>, t: Tid) -> Result<(), AllocError>
+    requires tied { IsTied core.old }
+    requires going { core.old.stop ≡ None }
+    ensures ok { OnOk result ((upsets : List Upset) → state_of core.new upsets ≡ turn_of core.old.program (state_of core.old upsets) t.0) }
+    ensures tied { IsTied core.new }
+    ensures program { core.new.program ≡ core.old.program }
+    ensures err { OnErr result (core.new ≡ core.old) }
+{
+    core.turn(t)
 }

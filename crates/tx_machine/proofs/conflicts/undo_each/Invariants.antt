@@ -1,4 +1,4 @@
-use Rattle.std.proofs.Common.{◌≡◌, ◌≤◌, ℕ, length, vec_capacity}
+use Rattle.std.proofs.Common.{◌≡◌, ◌≤◌, length, vec_capacity}
 use Rattle.rtm_core.specs.Calls.{AreThreads}
 use Rattle.tx_machine.specs.Undone.{own_all, watches_all}
 use Rattle.tx_machine.proofs.conflicts.undo_each.Given as goal

@@ -1,6 +1,6 @@
-use Rattle.std.proofs.Common.{ℕ, Bool, ◌≡◌, ◌∙◌, OnOk, OnErr, OnSome, Option, Some, None, ap, sym, subst}
+use Rattle.std.proofs.Common.{Bool, ◌≡◌, ◌∙◌, OnOk, OnErr, OnSome, Option, ap, sym, subst}
 use Rattle.inst_meaning.specs.declared.actions.Cause.{Cause}
-use Rattle.tx_machine.specs.Core.{CoreParts, core_told, core_untold, core_trapped, core_aborted, core_accessed, failure_at, room_for, alone_as, finished_as, core_finished, core_done}
+use Rattle.tx_machine.specs.Core.{CoreParts, core_untold, core_trapped, core_aborted, core_accessed, failure_at, alone_as, finished_as, core_finished, core_done}
 use Rattle.hard_meaning.specs.Aborts.{Overflow}
 use Rattle.tx_machine.proofs.Told.{untold-told}
 use Rattle.tx_machine.proofs.parts.Core.act_alone.Goals as goal

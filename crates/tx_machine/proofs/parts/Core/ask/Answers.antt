@@ -1,4 +1,4 @@
-use Rattle.std.proofs.Common.{ℕ, ◌≡◌, ◌∙◌, OnOk, OnErr, ap, sym, subst}
+use Rattle.std.proofs.Common.{◌≡◌, ◌∙◌, OnOk, OnErr, ap, sym, subst}
 use Rattle.inst_meaning.specs.declared.actions.Reply.{Reply}
 use Rattle.inst_meaning.specs.declared.actions.Reply.TheVariants.{Waits, Refuses}
 use Rattle.tx_machine.specs.Core.{CoreParts, core_told, core_untold, core_trapped, reply_at, replied_as}

@@ -14,8 +14,9 @@ invariant_of-self-2 c =
     let rs : List Record = c.self.inside.records.items in
     let latest : Record = c.record-latest.result in
     let kept_all : map kept (map came (rs ++ latest ∷ [])) ≡ rs ++ latest ∷ [] =
-    subst (λ (r : Record). map kept (map came (rs ++ r ∷ [])) ≡ rs ++ r ∷ []) (sym c.record-latest.ensures) (more-kept rs (kind_as c.args.kind) c.self.invariant.1) in
-    (c.count_if-self-inside.ensures ∙ ap (λ (b : Bool). more_if b c.self.inside.firm) c.is_firm.ensures
-    ∙ ap (more_if (is_firm (came latest))) c.self.invariant.0 ∙ sym (more-firm rs latest)
-    ∙ ap (λ (list : List Record). firm_in (map came list)) (sym c.in_ok-push.ensures.items),
-    subst (λ (list : List Record). map kept (map came list) ≡ list) (sym c.in_ok-push.ensures.items) kept_all)
+    subst (λ (r : Record). map kept (map came (rs ++ r ∷ [])) ≡ rs ++ r ∷ []) (sym c.record-latest.ensures) (more-kept rs (kind_as c.args.kind) c.self.invariant.1) in (
+      c.count_if-self-inside.ensures ∙ ap (λ (b : Bool). more_if b c.self.inside.firm) c.is_firm.ensures
+          ∙ ap (more_if (is_firm (came latest))) c.self.invariant.0 ∙ sym (more-firm rs latest)
+          ∙ ap (λ (list : List Record). firm_in (map came list)) (sym c.in_ok-push.ensures.items),
+      subst (λ (list : List Record). map kept (map came list) ≡ list) (sym c.in_ok-push.ensures.items) kept_all,
+    )
