@@ -6,8 +6,8 @@ relax-requires c =
     let flow = c.in_ok-flow.ensures.answer in
     record { source = flow.source; accepted = flow.accepted; of_text = flow.of_text; is = c.in_ok-checked.ensures.column flow.source flow.is }
 
-pub returns-in_ok-hardened : goal.returns-in_ok-hardened
-returns-in_ok-hardened c =
+pub returns : goal.returns
+returns c =
     let m = c.args.a.now in
     let accepted = c.module.ensures.accepted in
     let checked = c.in_ok-checked.ensures.column m c.in_ok-flow.ensures.columns in
