@@ -12,7 +12,10 @@ const REPORTS: &[(&str, &str)] = &[
     ("turn 0 2\nturn 0 38\n", REPORT),
     ("turn 0 12", REPORT),
     ("", "aborts 0 0 0 0\nstop bound\nsrc\n"),
-    ("turn 0 11\n", "out 5\naborts 0 0 0 0\nstop bound\nsrc 0*2\n"),
+    (
+        "turn 0 11\n",
+        "out 5\naborts 0 0 0 0\nstop bound\nsrc 0*2\n",
+    ),
     // Threads that were never made take turns for nothing. The third form is one turn, of thread 2.
     ("turn 3 5\nturn 0 40\n", REPORT),
     ("round 3 40\n", REPORT),
