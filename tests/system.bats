@@ -220,8 +220,8 @@ all_cases() {
 }
 
 # Memory takes no more than address space does; of this, 64 MiB are for the program itself.
-@test "texts of 4 MiB run in 100 bytes of memory for each byte of input" {
-    memory=$((100 * greatest_size / 1024 + 64 * 1024))
+@test "texts of 4 MiB run in 160 bytes of memory for each byte of input" {
+    memory=$((160 * greatest_size / 1024 + 64 * 1024))
     echo "turn 0 4194304" >second
 
     sums 65000 >first
@@ -238,7 +238,7 @@ all_cases() {
     answered_file 0 wanted_report
 }
 
-@test "texts of 4 MiB that aren't accepted are refused within the same memory" {
+@test "texts of 4 MiB that aren't accepted are refused in 100 bytes for each byte of input" {
     memory=$((100 * greatest_size / 1024 + 64 * 1024))
     echo "turn 0 1" >second
     local parts
